@@ -1,0 +1,78 @@
+-- LEN around a lawful codec: both round trips of a field, and acceptance exactly of what is laid out.
+use mathlib.Core.Path.{_≡_, refl, sym, ap, ap₂, _∙_, subst}
+use mathlib.Core.Bool.{Bool, true, false, _&&_}
+use mathlib.Core.List.{List, [], _∷_, _++_, append-nil, tail-eq-of-cons-eq}
+use Prim.Native.Nat.{ℕ, zero, suc, _+_, _-_, _≤_, _<_}
+use native.Mathlib.Nat.{le-of-eq}
+use native.Mathlib.Omega.{arith}
+use lib.Dec.{T, ltb, leb, eqb, ltb→lt, leb→le, le→leb}
+use lib.ListN.{length, take, drop, take-append-drop, length-append, drop-of-length-le}
+use lib.Seq.{take-at, take-all, length-take-le}
+use borrow.Author.Tests.{le-ltb, ltb-false, eqb-true, eq-eqb}
+use Rattle.codec.specs.Pick.{pick}
+use Rattle.codec.specs.Codec.{Octets, Res, got, bad, Codec, Lawful}
+use Rattle.codec.specs.Frame.{Outcome, accepted, refused, settle, readFrame, writeFrame, okayFrame}
+use Rattle.codec.specs.Laws.Tests.{and-in, and-l, and-r}
+use Rattle.codec.specs.Laws.Codec.{octets-take}
+
+IsAccepted : {A : Type 0} → Outcome A → Type 0
+IsAccepted (accepted r) = Unit {0}
+IsAccepted (refused n p) = ⊥
+
+pub refused≢accepted {ℓ} : {X : Type ℓ} {A : Type 0} {n p : ℕ} {r : A} → refused n p ≡ accepted r → X
+unfolding IsAccepted
+refused≢accepted e = absurd (subst IsAccepted (sym e) tt)
+
+-- a test that refuses did not
+pub not-refused {ℓ} : {X : Type ℓ} {A : Type 0} (b : Bool) (n p : ℕ) (m : Outcome A) {r : A} → pick b (refused n p) m ≡ accepted r
+    → (b ≡ false → m ≡ accepted r → X) → X
+not-refused true n p m e k = refused≢accepted e
+not-refused false n p m e k = k refl e
+
+settled : {A : Type 0} (m : ℕ) (x : Res A) (r : A) → settle m x ≡ accepted r → x ≡ got r m
+unfolding settle
+settled m (got q n) r e = go (eqb n m) refl e
+  where
+    go : (b : Bool) → eqb n m ≡ b → pick b (accepted q) (refused 9 (suc n)) ≡ accepted r → got q n ≡ got r m
+    go true e1 e2 = let e3 : q ≡ r = cc in ap₂ got e3 (eqb-true n m e1)
+    go false e1 e2 = refused≢accepted e2
+settled m (bad n s) r e = refused≢accepted e
+
+module _ {A : Type 0} {c : Codec A} (L : Lawful c) where
+  -- what was read is written again, up to LEN
+  pub written-again : (len : ℕ) (t : List ℕ) → Octets (len ∷ t) → (r : A) → readFrame c (len ∷ t) ≡ accepted r
+      → (writeFrame c r ++ drop (len - 1) t ≡ len ∷ t) × T (okayFrame c r)
+  unfolding readFrame writeFrame okayFrame
+  written-again len t o r e =
+      not-refused (ltb len 2) 3 0 _ e λ b1 e1.
+      not-refused (ltb (suc (length t)) len) 2 0 _ e1 λ b2 e2.
+      let h1 : 2 ≤ len = ltb-false len 2 b1 in
+      let h2 : len ≤ suc (length t) = ltb-false (suc (length t)) len b2 in
+      let h3 : len < 256 = ltb→lt len 256 (and-l (ltb len 256) _ o) in
+      let x : List ℕ = take (len - 1) t in
+      let n : length x ≡ len - 1 = length-take-le (len - 1) t (omega arith) in
+      let u = L .back x (octets-take (len - 1) t (and-r (ltb len 256) _ o)) r (len - 1) (settled (len - 1) (c .read x) r e2) in
+      let w : c .write r ≡ x = sym (u .took) ∙ take-all (len - 1) x (le-of-eq n) in
+      let l : length (c .write r) ≡ len - 1 = ap length w ∙ n in
+      let l1 : suc (length (c .write r)) ≡ len = omega arith in (
+        ap₂ _∷_ l1 (ap (_++ drop (len - 1) t) w ∙ take-append-drop (len - 1) t),
+        and-in (c .okay r) _ (u .okay) (and-in (leb 1 (length (c .write r))) _ (le→leb 1 (length (c .write r)) (omega arith)) (le→leb (length (c .write r)) 254 (omega arith))),
+      )
+
+  -- what was written is read, whatever follows
+  pub read-again : (r : A) → T (okayFrame c r) → (rest : List ℕ) → readFrame c (writeFrame c r ++ rest) ≡ accepted r
+  unfolding readFrame writeFrame okayFrame settle
+  read-again r k rest =
+      let y : List ℕ = c .write r in
+      let h1 : 1 ≤ length y = leb→le 1 (length y) (search (and-l, and-r)) in
+      let n : length y ≡ suc (length y) - 1 = omega arith in
+      let e : c .read y ≡ got r (length y) = subst (λ z. c .read z ≡ got r (length y)) (append-nil y) (L .forth r (and-l (c .okay r) _ k) []) in
+      rw (le-ltb (suc (length y)) 2 (omega arith), le-ltb (suc (length (y ++ rest))) (suc (length y)) (rw length-append (omega arith)), take-at y rest (suc (length y) - 1) n, e, eq-eqb (length y) (suc (length y) - 1) n)
+
+  -- a field with nothing behind it
+  pub written-whole : (t : List ℕ) → Octets (suc (length t) ∷ t) → (r : A) → readFrame c (suc (length t) ∷ t) ≡ accepted r → (c .write r ≡ t) × T (c .okay r)
+  unfolding writeFrame okayFrame
+  written-whole t o r e =
+      let w = written-again (suc (length t)) t o r e in
+      let d : drop (suc (length t) - 1) t ≡ [] = drop-of-length-le t {i = suc (length t) - 1} (omega arith) in
+      (sym (append-nil (c .write r)) ∙ ap (c .write r ++_) (sym d) ∙ tail-eq-of-cons-eq (w .0), and-l (c .okay r) _ (w .1))
