@@ -1,0 +1,5 @@
+-- What follows from the definitions, a file for each of theirs.
+pub mod Papers
+pub mod Record
+pub mod Lines
+pub mod Mask
