@@ -7,4 +7,5 @@ pub mod Papers
 pub mod Record
 pub mod Answer
 pub mod Lines
+pub mod Specimens
 pub mod Laws

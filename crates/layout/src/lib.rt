@@ -20,6 +20,31 @@ pub enum Answer {
     Refused(u8, usize),
 }
 
+// What reading gives: the answer, and the record, which is zeros where the field is refused.
+pub struct Reading {
+    pub answer: Answer,
+    pub kept: Record,
+}
+
+// Where an item stands in its field, its first offset and its length; or a refusal's number and its place.
+pub enum View {
+    Shown(usize, usize),
+    Hidden(u8, usize),
+}
+
+// Which of two fields is meant.
+pub enum Which {
+    Neither,
+    Base,
+    Correction,
+}
+
+// The field that an item is taken from or that is refused, and where the item stands in it.
+pub struct Choice {
+    pub which: Which,
+    pub view: View,
+}
+
 // Each category carries three numbers of its own (01, 'The field').
 pub struct Cat048;
 

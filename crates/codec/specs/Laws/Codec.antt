@@ -200,12 +200,3 @@ lawful-seq {c} {d} L M = record {
       octets-++ (c .write (p .0)) ((d (p .0)) .write (p .1)) (L .octets (p .0) (and-l (c .okay (p .0)) _ k))
       ((M (p .0)) .octets (p .1) (and-r (c .okay (p .0)) _ k));
 }
-
--- ---- a lawful codec writes different values differently
-
-pub write-injective : {A : Type 0} {c : Codec A} → Lawful c → (a b : A) → T (c .okay a) → T (c .okay b) → c .write a ≡ c .write b → a ≡ b
-write-injective {c} L a b h k e =
-    let p : c .read (c .write a ++ []) ≡ got a (length (c .write a)) = L .forth a h [] in
-    let q : c .read (c .write b ++ []) ≡ got b (length (c .write b)) = L .forth b k [] in
-    let s : c .read (c .write a ++ []) ≡ c .read (c .write b ++ []) = ap (λ y. c .read (y ++ [])) e in
-    cc

@@ -5,14 +5,14 @@ use mathlib.Core.List.{List, [], _∷_, _++_}
 use Prim.Native.Nat.{ℕ, zero, suc, _+_, _^_, _≤_, _<_}
 use native.Mathlib.Omega.{arith}
 use lib.Dec.{T, eqb}
-use lib.ListN.{length, length-append}
+use lib.ListN.{length, getD}
 use Rattle.codec.specs.Radix.{total, cut, join, ones}
 use Rattle.codec.specs.Codec.{Codec, Lawful, opt, number}
 use Rattle.codec.specs.Line.{Held}
 use Rattle.codec.specs.Item.{Item, nothing, slots, item, goodItem}
 use Rattle.codec.specs.Field.{isNil, isCons, uncons, noRow, firstFlag, nextFlags, place, row, flags, noSpare, indicator, Contents, body, goodItems, texts, textsOf, flat}
-use Rattle.codec.specs.Laws.Tests.{and-in, and-l, and-r}
-use Rattle.codec.specs.Laws.Radix.{join-cut, cut-one, length-cut}
+use Rattle.codec.specs.Laws.Tests.{and-in, and-l, and-r, not-one}
+use Rattle.codec.specs.Laws.Radix.{join-cut, cut-digits, cut-one, length-cut, digit-bit}
 use Rattle.codec.specs.Laws.Codec.{Only, lawful-via, lawful-number, number-under, lawful-guard, lawful-absent, lawful-opt, lawful-seq}
 use Rattle.codec.specs.Laws.Item.{only-nothing, nothing-length, opt-length, item-length, lawful-item}
 
@@ -77,6 +77,11 @@ pub flags-join : (n : ℕ) → n < 256 → join ones (flags n) ≡ n
 unfolding total
 flags-join n h = join-cut ones n h
 
+-- a flag that is not 1 is 0
+pub flag-zero : (n i : ℕ) → n < 256 → eqb (getD (flags n) i 0) 1 ≡ false → getD (flags n) i 0 ≡ 0
+unfolding total
+flag-zero n i h e = not-one (getD (flags n) i 0) (digit-bit 8 (flags n) i (cut-digits ones n h)) e
+
 pub body-write : (its : List Item) (r : Contents) → (body its) .write r ≡ r .0 ∷ flat (textsOf its r)
 unfolding body textsOf indicator number
 body-write its r = ap₂ _++_ (cut-one (r .0)) (row-texts (flags (r .0)) its (r .1))
@@ -93,3 +98,12 @@ same-write its r q h k f t =
     body-write its r
     ∙ ap₂ _∷_ (sym (flags-join (r .0) (indicator-lt its r h)) ∙ ap (join ones) f ∙ flags-join (q .0) (indicator-lt its q k)) (ap flat t)
     ∙ sym (body-write its q)
+
+-- an absent item has no octets
+pub text-absent : (ds : List ℕ) (its : List Item) (vs : List Held) (i : ℕ) → eqb (getD ds i 0) 1 ≡ false → getD (texts ds its vs) i [] ≡ []
+unfolding texts firstFlag nextFlags
+text-absent ds [] vs i e = refl
+text-absent [] (it ∷ its) vs zero e = refl
+text-absent [] (it ∷ its) vs (suc i) e = text-absent [] its ((uncons vs) .1) i e
+text-absent (d ∷ ds) (it ∷ its) vs zero e = ap (λ b. (opt (nothing (slots it)) b (item it)) .write ((uncons vs) .0)) e
+text-absent (d ∷ ds) (it ∷ its) vs (suc i) e = text-absent ds its ((uncons vs) .1) i e

@@ -1,17 +1,17 @@
 -- LEN around a lawful codec: both round trips of a field, and acceptance exactly of what is laid out.
 use mathlib.Core.Path.{_≡_, refl, sym, ap, ap₂, _∙_, subst}
 use mathlib.Core.Bool.{Bool, true, false, _&&_}
-use mathlib.Core.List.{List, [], _∷_, _++_, append-nil, tail-eq-of-cons-eq}
+use mathlib.Core.List.{List, [], _∷_, _++_, append-nil, head-eq-of-cons-eq, tail-eq-of-cons-eq}
 use Prim.Native.Nat.{ℕ, zero, suc, _+_, _-_, _≤_, _<_}
 use native.Mathlib.Nat.{le-of-eq}
 use native.Mathlib.Omega.{arith}
-use lib.Dec.{T, ltb, leb, eqb, ltb→lt, leb→le, le→leb}
+use lib.Dec.{T, ltb, leb, eqb, ltb→lt, lt→ltb, leb→le, le→leb}
 use lib.ListN.{length, take, drop, take-append-drop, length-append, drop-of-length-le}
 use lib.Seq.{take-at, take-all, length-take-le}
 use borrow.Author.Tests.{le-ltb, ltb-false, eqb-true, eq-eqb}
 use Rattle.codec.specs.Pick.{pick}
-use Rattle.codec.specs.Codec.{Octets, Res, got, bad, Codec, Lawful}
-use Rattle.codec.specs.Frame.{Outcome, accepted, refused, settle, readFrame, writeFrame, okayFrame}
+use Rattle.codec.specs.Codec.{Octets, Res, got, bad, mapRes, Codec, Lawful, via}
+use Rattle.codec.specs.Frame.{Outcome, accepted, refused, lenOf, settle, readFrame, writeFrame, okayFrame}
 use Rattle.codec.specs.Laws.Tests.{and-in, and-l, and-r}
 use Rattle.codec.specs.Laws.Codec.{octets-take}
 
@@ -37,6 +37,11 @@ settled m (got q n) r e = go (eqb n m) refl e
     go true e1 e2 = let e3 : q ≡ r = cc in ap₂ got e3 (eqb-true n m e1)
     go false e1 e2 = refused≢accepted e2
 settled m (bad n s) r e = refused≢accepted e
+
+pub record Front {A : Type 0} (c : Codec A) (s : List ℕ) (r : A) : Type 0 where
+  pub front : take (lenOf s) s ≡ writeFrame c r
+  pub len-is : length (writeFrame c r) ≡ lenOf s
+  pub okay : T (okayFrame c r)
 
 module _ {A : Type 0} {c : Codec A} (L : Lawful c) where
   -- what was read is written again, up to LEN
@@ -76,3 +81,53 @@ module _ {A : Type 0} {c : Codec A} (L : Lawful c) where
       let w = written-again (suc (length t)) t o r e in
       let d : drop (suc (length t) - 1) t ≡ [] = drop-of-length-le t {i = suc (length t) - 1} (omega arith) in
       (sym (append-nil (c .write r)) ∙ ap (c .write r ++_) (sym d) ∙ tail-eq-of-cons-eq (w .0), and-l (c .okay r) _ (w .1))
+
+  -- a field is accepted exactly if its first LEN octets are what the codec writes
+  pub accepted-front : (s : List ℕ) → Octets s → (r : A) → readFrame c s ≡ accepted r → Front c s r
+  unfolding readFrame lenOf writeFrame
+  accepted-front [] o r e = refused≢accepted e
+  accepted-front (len ∷ t) o r e =
+      let w = written-again len t o r e in
+      let l : length (writeFrame c r) ≡ len = head-eq-of-cons-eq (w .0) in
+      record { front = ap (take len) (sym (w .0)) ∙ take-at (writeFrame c r) (drop (len - 1) t) len l; len-is = l; okay = w .1 }
+
+  pub front-accepted : (s : List ℕ) (r : A) → T (okayFrame c r) → take (lenOf s) s ≡ writeFrame c r → readFrame c s ≡ accepted r
+  front-accepted s r k e =
+      subst (λ x. readFrame c x ≡ accepted r) (ap (_++ drop (lenOf s) s) (sym e) ∙ take-append-drop (lenOf s) s) (read-again r k (drop (lenOf s) s))
+
+  pub frame-injective : (a b : A) → T (okayFrame c a) → T (okayFrame c b) → writeFrame c a ≡ writeFrame c b → a ≡ b
+  frame-injective a b h k e =
+      let p : readFrame c (writeFrame c a ++ []) ≡ accepted a = read-again a h [] in
+      let q : readFrame c (writeFrame c b ++ []) ≡ accepted b = read-again b k [] in
+      let s : readFrame c (writeFrame c a ++ []) ≡ readFrame c (writeFrame c b ++ []) = ap (λ y. readFrame c (y ++ [])) e in
+      cc
+
+  -- what is written are octets
+  pub frame-octets : (r : A) → T (okayFrame c r) → Octets (writeFrame c r)
+  unfolding okayFrame writeFrame
+  frame-octets r k =
+      let h : length (c .write r) ≤ 254 = leb→le (length (c .write r)) 254 (search (and-l, and-r)) in
+      and-in (ltb (suc (length (c .write r))) 256) _ (lt→ltb (suc (length (c .write r))) 256 (omega arith)) (L .octets r (and-l (c .okay r) _ k))
+
+-- ---- a field seen as another type
+
+abbrev pub mapOutcome : {A B : Type 0} → (A → B) → Outcome A → Outcome B
+mapOutcome f (accepted a) = accepted (f a)
+mapOutcome f (refused n p) = refused n p
+
+map-pick : {A B : Type 0} (f : A → B) (b : Bool) (x y : Outcome A) → mapOutcome f (pick b x y) ≡ pick b (mapOutcome f x) (mapOutcome f y)
+map-pick f true x y = refl
+map-pick f false x y = refl
+
+settle-map : {A B : Type 0} (f : A → B) (m : ℕ) (x : Res A) → settle m (mapRes f x) ≡ mapOutcome f (settle m x)
+unfolding settle
+settle-map f m (got r n) = sym (map-pick f (eqb n m) (accepted r) (refused 9 (suc n)))
+settle-map f m (bad e p) = refl
+
+pub frame-via : {A B : Type 0} (f : A → B) (g : B → A) (fits : B → Bool) (c : Codec A) (s : List ℕ) → readFrame (via f g fits c) s ≡ mapOutcome f (readFrame c s)
+unfolding readFrame
+frame-via f g fits c [] = refl
+frame-via f g fits c (len ∷ t) =
+    ap (λ x. pick (ltb len 2) (refused 3 0) (pick (ltb (suc (length t)) len) (refused 2 0) x)) (settle-map f (len - 1) (c .read (take (len - 1) t)))
+    ∙ ap (pick (ltb len 2) (refused 3 0)) (sym (map-pick f (ltb (suc (length t)) len) (refused 2 0) (settle (len - 1) (c .read (take (len - 1) t)))))
+    ∙ sym (map-pick f (ltb len 2) (refused 3 0) (pick (ltb (suc (length t)) len) (refused 2 0) (settle (len - 1) (c .read (take (len - 1) t)))))

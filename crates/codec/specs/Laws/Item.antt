@@ -8,11 +8,11 @@ use lib.Dec.{T, ltb, eqb, ltb→lt, lt→ltb, eqb→eq}
 use lib.IntN.{ℤ, pos, negsuc}
 use lib.ListN.{length, take, drop, replicate, take-append-drop, length-append, length-replicate}
 use lib.Seq.{take-at, drop-at}
-use borrow.Author.Tests.{lt-ltb, le-ltb, eqb-true, eqb-false}
+use borrow.Author.Tests.{lt-ltb, le-ltb, eqb-true}
 use Rattle.codec.specs.Codec.{Codec, Lawful, opt}
 use Rattle.codec.specs.Line.{Line, Held, count, line, fills}
 use Rattle.codec.specs.Item.{Item, chained, single, slotsOf, slots, isZero, zeros, nothing, beside, fxOf, chain, flagged, subfields, item, goodLines, goodItem}
-use Rattle.codec.specs.Laws.Tests.{and-in, and-l, and-r}
+use Rattle.codec.specs.Laws.Tests.{and-in, and-l, and-r, not-one}
 use Rattle.codec.specs.Laws.Codec.{Only, lawful-via, lawful-guard, lawful-absent, lawful-opt, lawful-seq}
 use Rattle.codec.specs.Laws.Line.{lawful-line, line-count, line-fx}
 
@@ -101,16 +101,7 @@ chain-fx q qs n x h v t = go (eqb x 1) refl t
   where
     go : (b : Bool) → eqb x 1 ≡ b → T ((opt (nothing n) b (chain q qs)) .okay v) → fxOf (suc (v .0)) ≡ x
     go true e s = let k : 0 < v .0 = chain-parts q qs v s in rw (lt-ltb 1 (suc (v .0)) (omega arith)) (sym (eqb-true x 1 e))
-    go false e s =
-        let k : v .0 ≡ 0 = nothing-count n v s in
-        let z : x ≡ 1 → ⊥ = eqb-false x 1 e in
-        let y : x ≡ 0 = below-two x h z in
-        rw (le-ltb 1 (suc (v .0)) (omega arith)) (sym y)
-      where
-        below-two : (x : ℕ) → x < 2 → (x ≡ 1 → ⊥) → x ≡ 0
-        below-two zero h z = refl
-        below-two (suc zero) h z = absurd (z refl)
-        below-two (suc (suc x)) h z = absurd (omega arith)
+    go false e s = let k : v .0 ≡ 0 = nothing-count n v s in rw (le-ltb 1 (suc (v .0)) (omega arith)) (sym (not-one x h e))
 
 pub lawful-chain : (p : Line) (qs : List Line) → T (goodLines 1 (p ∷ qs)) → Lawful (chain p qs)
 unfolding chain goodLines

@@ -6,7 +6,7 @@ use Prim.Native.Nat.{ℕ, zero, suc, _+_, _*_, _^_, _/_, _%_, _≤_, _<_}
 use native.Mathlib.Nat.{mod-lt, not-suc-le-zero, le-of-suc-le-suc}
 use native.Mathlib.Omega.{arith}
 use lib.Dec.{T, ltb, ltb→lt, lt→ltb}
-use lib.ListN.{length, getD, set}
+use lib.ListN.{length, getD, set, replicate}
 use lib.Pow.{pow-pos, pow-add, split, high, low, shr-lt}
 use lib.Arith.{digits-lt, lt-one}
 use Rattle.codec.specs.Radix.{total, cut, join, digits}
@@ -62,3 +62,12 @@ digits-set (u ∷ ws) (x ∷ ds) zero d w t e b h =
     and-in (ltb d (2 ^ u)) _ (lt→ltb d (2 ^ u) (subst (λ m. d < 2 ^ m) (sym e) h)) (and-r (ltb x (2 ^ u)) _ t)
 digits-set (u ∷ ws) (x ∷ ds) (suc i) d w t e b h =
     and-in (ltb x (2 ^ u)) _ (and-l (ltb x (2 ^ u)) _ t) (digits-set ws ds i d w (and-r (ltb x (2 ^ u)) _ t) e (le-of-suc-le-suc b) h)
+
+-- a digit of one bit is 0 or 1
+pub digit-bit : (k : ℕ) (ds : List ℕ) (i : ℕ) → T (digits (replicate k 1) ds) → getD ds i 0 < 2
+unfolding digits
+digit-bit zero [] i t = omega arith
+digit-bit zero (d ∷ ds) i t = absurd t
+digit-bit (suc k) [] i t = absurd t
+digit-bit (suc k) (d ∷ ds) zero t = ltb→lt d 2 (and-l (ltb d 2) _ t)
+digit-bit (suc k) (d ∷ ds) (suc i) t = digit-bit k ds i (and-r (ltb d 2) _ t)

@@ -1,0 +1,7 @@
+-- What a reader wants to know of the whole: reading and writing (demand 2), views, edits (demand 3), refusals (demand 1), and the octets of 01 computed.
+pub mod Reading
+pub mod Longest
+pub mod Views
+pub mod Edits
+pub mod Refusals
+pub mod Edges

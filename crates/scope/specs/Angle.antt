@@ -1,0 +1,13 @@
+-- The angle of a latitude or longitude (01, 'The sheet'): "in millionths of a degree, nearest, halves away from zero. The exact angle is the number times
+-- 703,125 over 32,768".
+use Prim.Native.Nat.{ℕ, suc, _+_, _*_, _/_}
+use lib.IntN.{ℤ, pos, negsuc, negℤ}
+
+-- of a magnitude: half of the divisor is added, and what is left over is dropped
+unfoldable pub rounded : ℕ → ℕ
+rounded n = (n * 703_125 + 16_384) / 32_768
+
+unfoldable pub udegOf : ℤ → ℤ
+unfolding rounded
+udegOf (pos n) = pos (rounded n)
+udegOf (negsuc n) = negℤ (pos (rounded (suc n)))

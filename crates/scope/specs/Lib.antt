@@ -1,0 +1,6 @@
+-- What each operation of 01 answers, a file for each of its sections: reading, writing, views and the choice, the desk, the angle.
+pub mod Reading
+pub mod Writing
+pub mod Views
+pub mod Desk
+pub mod Angle

@@ -1,0 +1,231 @@
+"""An implementation of document 01 for the tests, written from 01 and the papers; it shares nothing with crates/.
+
+A record is (category, items, [8 parts], [77 numbers]). An operation answers ('ok', ..) or ('refused', number, place).
+"""
+from papers import PAPERS
+
+SLOTS = 77
+
+
+class Refusal(Exception):
+    def __init__(self, number, place):
+        super().__init__(number, place)
+        self.number, self.place = number, place
+
+
+def cut(value, hi, lo):
+    return value >> (lo - 1) & ((1 << (hi - lo + 1)) - 1)
+
+
+def spare_bits(octets, numbers, fx):
+    mask = (1 << 8 * octets) - 1
+    for _, hi, lo, _ in numbers:
+        mask &= ~(((1 << (hi - lo + 1)) - 1) << (lo - 1))
+    return mask & ~1 if fx else mask
+
+
+def signed(value, bits):
+    return value - (1 << bits) if value >> (bits - 1) else value
+
+
+def in_range(kind, z):
+    if kind == "lat":
+        return -4194304 <= z <= 4194304
+    if kind == "ga":
+        return z >= -40
+    return True
+
+
+def value_of(number, whole):
+    _, hi, lo, kind = number
+    v = cut(whole, hi, lo)
+    return v if kind == "u" else signed(v, hi - lo + 1)
+
+
+def take(field, at, octets, numbers, fx):
+    """The octets of a chain part or subfield as one number: tried for 5, then 6."""
+    if at + octets > field[0]:
+        raise Refusal(5, at)
+    whole = int.from_bytes(field[at:at + octets], "big")
+    if whole & spare_bits(octets, numbers, fx):
+        raise Refusal(6, at)
+    return whole
+
+
+def read_chain(field, at, parts):
+    """The numbers of the parts there are (a list for each defined part, None where absent), the count, the next place."""
+    found = [None] * len(parts)
+    for k, (octets, numbers) in enumerate(parts):
+        whole = take(field, at, octets, numbers, True)
+        if whole & 1 and k == len(parts) - 1:
+            raise Refusal(7, at)
+        found[k] = [value_of(n, whole) for n in numbers]
+        at += octets
+        if not whole & 1:
+            return found, k + 1, at
+    raise AssertionError("a chain ends")
+
+
+def read_item(field, at, item):
+    """(parts, {slot in the item: number}, next place)"""
+    _, parts, subs = item
+    numbers, count, there = [], 0, [True] * len(subs)
+    if parts:
+        found, count, at = read_chain(field, at, parts)
+        for (_, defined), got in zip(parts, found):
+            numbers += got if got is not None else [0] * len(defined)
+        there = [numbers[k] == 1 for k in range(len(subs))]
+    for present, (_, octets, defined) in zip(there, subs):
+        if not present:
+            numbers += [0] * len(defined)
+            continue
+        whole = take(field, at, octets, defined, False)
+        got = [value_of(n, whole) for n in defined]
+        if not all(in_range(n[3], z) for n, z in zip(defined, got)):
+            raise Refusal(8, at)
+        numbers += got
+        at += octets
+    return count, numbers, at
+
+
+def size(item):
+    _, parts, subs = item
+    return sum(len(n) for _, n in parts) + sum(len(n) for _, _, n in subs)
+
+
+def walk(cat, field):
+    """The record of a field and the span of each item, (0, 0) where absent."""
+    if cat not in PAPERS:
+        raise Refusal(1, 0)
+    if not field:
+        raise Refusal(2, 0)
+    if field[0] < 2:
+        raise Refusal(3, 0)
+    if len(field) < field[0]:
+        raise Refusal(2, 0)
+    items, indicator, at = PAPERS[cat], field[1], 2
+    if indicator & ((1 << (8 - len(items))) - 1):
+        raise Refusal(4, 1)
+    counts, numbers, spans = [0] * 8, [], [(0, 0)] * 8
+    for i, item in enumerate(items):
+        if not indicator >> (7 - i) & 1:
+            numbers += [0] * size(item)
+            continue
+        start = at
+        counts[i], got, at = read_item(field, at, item)
+        numbers += got
+        spans[i] = (start, at - start)
+    if at != field[0]:
+        raise Refusal(9, at)
+    return (cat, indicator, counts, numbers + [0] * (SLOTS - len(numbers))), spans
+
+
+def answered(operation):
+    def call(*args):
+        try:
+            return operation(*args)
+        except Refusal as r:
+            return ("refused", r.number, r.place)
+    return call
+
+
+@answered
+def read(cat, field):
+    record, _ = walk(cat, field)
+    return ("ok", field[0], record)
+
+
+def lay(octets, numbers, values):
+    whole = 0
+    for (_, hi, lo, _), z in zip(numbers, values):
+        whole |= (z & ((1 << (hi - lo + 1)) - 1)) << (lo - 1)
+    return whole
+
+
+def lay_item(item, count, values):
+    """The octets of an item, by its numbers: chain parts as many as counted, then the subfields whose flag is set."""
+    _, parts, subs = item
+    out, at, first = b"", 0, values
+    for k, (octets, numbers) in enumerate(parts):
+        if k < count:
+            whole = lay(octets, numbers, values[at:at + len(numbers)]) | (1 if k + 1 < count else 0)
+            out += whole.to_bytes(octets, "big")
+        at += len(numbers)
+    for k, (_, octets, numbers) in enumerate(subs):
+        if not parts or first[k] == 1:
+            out += lay(octets, numbers, values[at:at + len(numbers)]).to_bytes(octets, "big")
+        at += len(numbers)
+    return out
+
+
+def lay_record(record):
+    """The octets that the record would have; no check."""
+    cat, indicator, counts, numbers = record
+    out, at = b"", 0
+    for i, item in enumerate(PAPERS[cat]):
+        if indicator >> (7 - i) & 1:
+            out += lay_item(item, counts[i], numbers[at:at + size(item)])
+        at += size(item)
+    return bytes([len(out) + 2, indicator]) + out
+
+
+@answered
+def write(record, room):
+    cat = record[0]
+    if cat not in PAPERS:
+        raise Refusal(1, 0)
+    octets = lay_record(record)
+    back = read(cat, octets)
+    if back[0] != "ok" or back[2] != record:
+        raise Refusal(10, 0)
+    if len(octets) > room:
+        raise Refusal(11, 0)
+    return ("ok", octets)
+
+
+@answered
+def view(cat, field, item):
+    record, spans = walk(cat, field)
+    if not 1 <= item <= len(PAPERS[cat]):
+        raise Refusal(12, 0)
+    start, length = spans[item - 1]
+    if not record[1] >> (8 - item) & 1:
+        raise Refusal(15, 0)
+    return ("ok", start, length, field[start:start + length])
+
+
+def choose(cat, base, correction, item):
+    """('ok', which, start, length, octets) or ('refused', number, place, which)"""
+    if cat not in PAPERS:
+        return ("refused", 1, 0, 0)
+    for which, field in ((1, base), (2, correction)):
+        got = read(cat, field)
+        if got[0] != "ok":
+            return got + (which,)
+    for which, field in ((2, correction), (1, base)):
+        got = view(cat, field, item)
+        if got[0] == "ok":
+            return ("ok", which) + got[1:]
+    return got + (0,)
+
+
+@answered
+def edit(cat, field, listed, item, new, room):
+    """new is None for a removal."""
+    record, spans = walk(cat, field)
+    if not 1 <= item <= len(PAPERS[cat]):
+        raise Refusal(12, 0)
+    bit = 1 << (8 - item)
+    if not listed & bit:
+        raise Refusal(13, 0)
+    indicator, texts = field[1], [field[a:a + n] for a, n in spans]
+    if new is None:
+        indicator, texts[item - 1] = indicator & ~bit, b""
+    else:
+        if not 1 <= len(new) <= 253 or read(cat, bytes([len(new) + 2, bit]) + new)[0] != "ok":
+            raise Refusal(14, 0)
+        indicator, texts[item - 1] = indicator | bit, new
+    body = b"".join(texts)
+    if len(body) + 2 > room:
+        raise Refusal(11, 0)
+    return ("ok", bytes([len(body) + 2, indicator]) + body)

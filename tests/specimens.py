@@ -1,0 +1,48 @@
+#!/usr/bin/env python3
+"""Prints the rows of crates/layout/specs/Specimens.antt: a field of each category with every item, part and subfield, and the record that it reads to.
+
+The numbers are drawn so that each differs from its neighbours' widths and signs: signed ones are negative, wide ones have their highest bit set.
+"""
+import random
+
+from papers import PAPERS
+from reference import SLOTS, lay_record, read
+
+
+def draw(rng, number):
+    _, hi, lo, kind = number
+    bits = hi - lo + 1
+    if kind == "u":
+        return rng.getrandbits(bits) | (1 << (bits - 1)) if bits > 1 else rng.getrandbits(1)
+    return {"ga": -rng.randint(1, 40), "lat": -rng.randint(1 << 21, 1 << 22)}.get(kind, -rng.randint(1 << (bits - 2), 1 << (bits - 1)))
+
+
+def specimen(cat, rng):
+    indicator, counts, numbers = 0, [0] * 8, []
+    for i, (_, parts, subs) in enumerate(PAPERS[cat]):
+        indicator |= 1 << (7 - i)
+        counts[i] = len(parts)
+        for _, defined in parts:
+            numbers += [1 if subs else draw(rng, n) for n in defined]
+        for _, _, defined in subs:
+            numbers += [draw(rng, n) for n in defined]
+    record = (cat, indicator, counts, numbers + [0] * (SLOTS - len(numbers)))
+    octets = lay_record(record)
+    assert read(cat, octets) == ("ok", len(octets), record)
+    return octets, record
+
+
+def antt(z):
+    return f"pos {z}" if z >= 0 else f"negsuc {-z - 1}"
+
+
+rng = random.Random(2026)
+for cat in PAPERS:
+    octets, (_, indicator, counts, numbers) = specimen(cat, rng)
+    print("    record {")
+    print(f"      cat = {cat};")
+    print("      octets = " + " ∷ ".join(f"0x{o:02X}" for o in octets) + " ∷ [];")
+    print(f"      items = 0x{indicator:02X};")
+    print("      parts = " + " ∷ ".join(map(str, counts)) + " ∷ [];")
+    print("      numbers = " + " ∷ ".join(map(antt, numbers)) + " ∷ [];")
+    print("    }")
