@@ -55,42 +55,53 @@ GAO =
 
 -- ---- 2.7 Surface Ground Vector: a primary subfield of two octets, and the first extension
 
-abbrev pub SGV : Item
-SGV =
-    chained
-    (part 2
+abbrev vector : Line
+vector =
+    part 2
     (bit  -- STP
     ∷ bit  -- HTS
     ∷ bit  -- HTT
     ∷ bit  -- HRD
     ∷ bits 11  -- GSS
-    ∷ []))
-    (part 1
+    ∷ [])
+
+abbrev heading : Line
+heading =
+    part 1
     (bits 7  -- HGT
     ∷ [])
-    ∷ [])
-    []
+
+abbrev pub SGV : Item
+SGV = chained vector (heading ∷ []) []
 
 -- ---- 2.8 Aircraft Status: a primary subfield and five extensions
 
-abbrev pub STA : Item
-STA =
-    chained
-    (part 1
+-- Primary Subfield
+abbrev status : Line
+status =
+    part 1
     (bit  -- ES
     ∷ bit  -- UAT
     ∷ bit  -- RCE#EP
     ∷ bits 2  -- RCE#VAL
     ∷ bit  -- RRL#EP
     ∷ bit  -- RRL#VAL
-    ∷ []))
-    (part 1
+    ∷ [])
+
+-- First Extension: Additional Target Characteristics
+abbrev first : Line
+first =
+    part 1
     (bit  -- PS3#EP
     ∷ bits 3  -- PS3#VAL
     ∷ bit  -- TPW#EP
     ∷ bits 2  -- TPW#VAL
     ∷ [])
-    ∷ part 1
+
+-- Second Extension: Additional Target Characteristics
+abbrev second : Line
+second =
+    part 1
     (bit  -- TSI#EP
     ∷ bits 2  -- TSI#VAL
     ∷ bit  -- MUO#EP
@@ -98,25 +109,38 @@ STA =
     ∷ bit  -- RWC#EP
     ∷ bit  -- RWC#VAL
     ∷ [])
-    ∷ part 1
+
+-- Third Extension: Additional Target Characteristics
+abbrev third : Line
+third =
+    part 1
     (bit  -- DAA#EP
     ∷ bits 2  -- DAA#VAL
     ∷ bit  -- DF17CA#EP
     ∷ bits 3  -- DF17CA#VAL
     ∷ [])
-    ∷ part 1
+
+-- Fourth Extension: Collision Avoidance Capabilities
+abbrev fourth : Line
+fourth =
+    part 1
     (bit  -- SVH#EP
     ∷ bits 2  -- SVH#VAL
     ∷ bit  -- CATC#EP
     ∷ bits 3  -- CATC#VAL
     ∷ [])
-    ∷ part 1
+
+-- Fifth Extension: Additional Target Characteristics
+abbrev fifth : Line
+fifth =
+    part 1
     (bit  -- TAO#EP
     ∷ bits 5  -- TAO#VAL
     ∷ spare 1
     ∷ [])
-    ∷ [])
-    []
+
+abbrev pub STA : Item
+STA = chained status (first ∷ second ∷ third ∷ fourth ∷ fifth ∷ []) []
 
 -- ---- 2.9 True North Heading. LSB 360°/2^16
 

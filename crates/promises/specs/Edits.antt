@@ -17,7 +17,7 @@ use Rattle.codec.specs.Item.{Item}
 use Rattle.codec.specs.Field.{flags, Contents, body, texts, textsOf, flat}
 use Rattle.codec.specs.Frame.{Outcome, accepted, refused, lenOf, readFrame, writeFrame, okayFrame}
 use Rattle.codec.specs.Change.{Change, remove, put, setFlag, change}
-use Rattle.codec.specs.Laws.Tests.{and-l}
+use Rattle.codec.specs.Laws.Tests.{and-l, holds}
 use Rattle.codec.specs.Laws.Field.{lawful-body, indicator-lt, flags-join, flag-zero, body-write, length-texts}
 use Rattle.codec.specs.Laws.Frame.{refused≢accepted, Front, read-again, frame-octets}
 use Rattle.codec.specs.Laws.Longest.{okay-alone}
@@ -32,7 +32,7 @@ use Rattle.scope.specs.Reading.{fieldOf, readOf}
 use Rattle.scope.specs.Writing.{withRoom, written}
 use Rattle.scope.specs.Views.{isItem, present, standing, viewOf, partOf}
 use Rattle.scope.specs.Desk.{listed, afresh, editIn, editOf}
-use Rattle.promises.specs.Reading.{holds, Read, read-made, kept-made, read-front}
+use Rattle.promises.specs.Reading.{Read, read-made, kept-made, read-front}
 use Rattle.promises.specs.Views.{field-is, front-length, item-in, view-number, part-is-text}
 
 sums : (xs ys zs : List ℕ) → length (xs ++ (ys ++ zs)) ≡ length xs + (length ys + length zs)

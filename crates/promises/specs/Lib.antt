@@ -4,4 +4,3 @@ pub mod Longest
 pub mod Views
 pub mod Edits
 pub mod Refusals
-pub mod Edges

@@ -4,3 +4,4 @@ pub mod Writing
 pub mod Views
 pub mod Desk
 pub mod Angle
+pub mod Edges

@@ -7,6 +7,7 @@ use native.Mathlib.Omega.{arith}
 use lib.ListN.{length, take, drop, length-append, length-drop, take-append-drop}
 use lib.Seq.{take-add, take-at, drop-append-seam, length-take-le}
 use lib.Dec.{T, ltb, leb, ltb→lt, lt→ltb, leb→le, le→leb}
+use borrow.Author.Tests.{le-leb}
 use lib.Pow.{areBytes}
 use Rattle.codec.specs.Pick.{pick}
 use Rattle.codec.specs.Radix.{total, cut, join, digits, eights}
@@ -143,6 +144,15 @@ number-okay k n h = and-in (ltb n (2 ^ total (eights k))) _ (lt→ltb n (2 ^ tot
 pub number-under : (k n : ℕ) → T ((number k) .okay n) → n < 2 ^ total (eights k)
 unfolding number
 number-under k n t = ltb→lt n (2 ^ total (eights k)) (and-l (ltb n (2 ^ total (eights k))) _ t)
+
+-- one octet is its own number
+join-one : (n : ℕ) → join (eights 1) (n ∷ []) ≡ n
+unfolding join total
+join-one n = omega arith
+
+pub number-one : (n : ℕ) (t : List ℕ) → (number 1) .read (n ∷ t) ≡ got n 1
+unfolding number
+number-one n t = rw (le-leb 1 (suc (length t)) (omega arith)) (ap (λ x. got x 1) (join-one n))
 
 -- ---- a further test
 

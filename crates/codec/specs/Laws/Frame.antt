@@ -8,7 +8,7 @@ use native.Mathlib.Omega.{arith}
 use lib.Dec.{T, ltb, leb, eqb, ltb→lt, lt→ltb, leb→le, le→leb}
 use lib.ListN.{length, take, drop, take-append-drop, length-append, drop-of-length-le}
 use lib.Seq.{take-at, take-all, length-take-le}
-use borrow.Author.Tests.{le-ltb, ltb-false, eqb-true, eq-eqb}
+use borrow.Author.Tests.{lt-ltb, le-ltb, ltb-false, eqb-true, eq-eqb, ne-eqb}
 use Rattle.codec.specs.Pick.{pick}
 use Rattle.codec.specs.Codec.{Octets, Res, got, bad, mapRes, Codec, Lawful, via}
 use Rattle.codec.specs.Frame.{Outcome, accepted, refused, lenOf, settle, readFrame, writeFrame, okayFrame}
@@ -131,3 +131,33 @@ frame-via f g fits c (len ∷ t) =
     ap (λ x. pick (ltb len 2) (refused 3 0) (pick (ltb (suc (length t)) len) (refused 2 0) x)) (settle-map f (len - 1) (c .read (take (len - 1) t)))
     ∙ ap (pick (ltb len 2) (refused 3 0)) (sym (map-pick f (ltb (suc (length t)) len) (refused 2 0) (settle (len - 1) (c .read (take (len - 1) t)))))
     ∙ sym (map-pick f (ltb len 2) (refused 3 0) (pick (ltb (suc (length t)) len) (refused 2 0) (settle (len - 1) (c .read (take (len - 1) t)))))
+
+-- ---- what reading a field answers, by the tests in their order: 2 for nothing, 3, 2 for too little, what is refused behind LEN, 9
+
+module _ {A : Type 0} (c : Codec A) where
+  pub frame-empty : readFrame c [] ≡ refused 2 0
+  unfolding readFrame
+  frame-empty = refl
+
+  module _ (len : ℕ) (t : List ℕ) where
+    pub frame-small : len < 2 → readFrame c (len ∷ t) ≡ refused 3 0
+    unfolding readFrame
+    frame-small h = rw (lt-ltb len 2 h) refl
+
+    module _ (h : 2 ≤ len) where
+      pub frame-short : suc (length t) < len → readFrame c (len ∷ t) ≡ refused 2 0
+      unfolding readFrame
+      frame-short k = rw (le-ltb len 2 h, lt-ltb (suc (length t)) len k) refl
+
+      module _ (k : len ≤ suc (length t)) where
+        pub frame-whole : readFrame c (len ∷ t) ≡ settle (len - 1) (c .read (take (len - 1) t))
+        unfolding readFrame
+        frame-whole = rw (le-ltb len 2 h, le-ltb (suc (length t)) len k) refl
+
+        pub frame-bad : {e p : ℕ} → c .read (take (len - 1) t) ≡ bad e p → readFrame c (len ∷ t) ≡ refused e (suc p)
+        unfolding settle
+        frame-bad e = frame-whole ∙ rw e refl
+
+        pub frame-left : {r : A} {n : ℕ} → c .read (take (len - 1) t) ≡ got r n → (n ≡ len - 1 → ⊥) → readFrame c (len ∷ t) ≡ refused 9 (suc n)
+        unfolding settle
+        frame-left {n = n} e x = frame-whole ∙ rw (e, ne-eqb n (len - 1) x) refl

@@ -6,10 +6,11 @@ use Prim.Native.Nat.{ℕ, zero, suc, _+_, _*_, _^_, _/_, _%_, _≤_, _<_}
 use native.Mathlib.Nat.{mod-lt}
 use lib.Dec.{T, ltb, eqb, ltb→lt, lt→ltb, eqb→eq}
 use lib.IntN.{ℤ, pos, negsuc}
-use lib.ListN.{length}
+use lib.ListN.{length, take}
+use borrow.Author.Tests.{le-leb, lt-leb}
 use lib.Pow.{pow-pos, split, high, low, shr-lt}
 use Rattle.codec.specs.Radix.{total, cut, join, digits, eights}
-use Rattle.codec.specs.Codec.{Codec, Lawful, number}
+use Rattle.codec.specs.Codec.{got, bad, Codec, Lawful, number}
 use Rattle.codec.specs.Line.{Kind, plain, signed, limited, Piece, spare, num, Line, toNum, ofNum, inNum, limit, widths, count, clear, nums, unnums, fitNums, inLimits, Held, cells, line, fills}
 use Rattle.codec.specs.Laws.Tests.{and-in, and-l, and-r}
 use Rattle.codec.specs.Laws.Signed.{to-of, of-to, in-to}
@@ -116,3 +117,31 @@ module _ (l : Line) (v : Held) (t : T ((line l) .okay v)) where
   pub line-fx : v .0 < 2 ^ l .fx
   unfolding line cells
   line-fx = ltb→lt (v .0) (2 ^ l .fx) (search (and-l, and-r))
+
+-- ---- what reading a line answers, by the tests in their order: 5, 6, 8
+
+module _ (l : Line) (xs : List ℕ) where
+  pub line-short : length xs < l .octets → (line l) .read xs ≡ bad 5 0
+  unfolding line cells number
+  line-short h = rw (lt-leb (l .octets) (length xs) h) refl
+
+  -- the octets as one number
+  abbrev pub wholeOf : ℕ
+  wholeOf = join (eights (l .octets)) (take (l .octets) xs)
+
+  abbrev pub digitsOf : List ℕ
+  digitsOf = cut (widths (l .pieces)) (wholeOf / 2 ^ l .fx)
+
+  module _ (h : l .octets ≤ length xs) where
+    pub line-spare : clear (l .pieces) digitsOf ≡ false → (line l) .read xs ≡ bad 6 0
+    unfolding line cells number
+    line-spare c = rw (le-leb (l .octets) (length xs) h, c) refl
+
+    module _ (c : clear (l .pieces) digitsOf ≡ true) where
+      pub line-limit : inLimits (l .pieces) (nums (l .pieces) digitsOf) ≡ false → (line l) .read xs ≡ bad 8 0
+      unfolding line cells number
+      line-limit z = rw (le-leb (l .octets) (length xs) h, c, z) refl
+
+      pub line-there : inLimits (l .pieces) (nums (l .pieces) digitsOf) ≡ true → (line l) .read xs ≡ got (wholeOf % 2 ^ l .fx, nums (l .pieces) digitsOf) (l .octets)
+      unfolding line cells number
+      line-there z = rw (le-leb (l .octets) (length xs) h, c, z) refl
