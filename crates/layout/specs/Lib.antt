@@ -1,4 +1,4 @@
--- The papers as data, one file a paper; which paper is a category's; the record and the answers; the papers line by line, as the tables have them.
+-- The papers as data, one file a paper; which paper is a category's; the record and the answers.
 pub mod Words
 pub mod Cat048
 pub mod Cat021
@@ -6,6 +6,5 @@ pub mod Cat007
 pub mod Papers
 pub mod Record
 pub mod Answer
-pub mod Lines
 pub mod Specimens
 pub mod Laws

@@ -11,7 +11,7 @@ use lib.Arith.{digits-lt}
 use lib.Bits.{bitAnd, and-block, and-mask, and-zero-r}
 use Rattle.codec.specs.Radix.{total, cut}
 use Rattle.codec.specs.Line.{Piece, Line, spare, num, widths, clear}
-use Rattle.layout.specs.Lines.{maskOf, spareMask}
+use Rattle.tables.specs.Lines.{maskOf, spareMask}
 
 mask-lt : (ps : List Piece) → maskOf ps < 2 ^ total (widths ps)
 unfolding maskOf total widths

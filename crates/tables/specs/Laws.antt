@@ -1,0 +1,3 @@
+-- What holds of every line and every spot.
+pub mod Lines
+pub mod Mask

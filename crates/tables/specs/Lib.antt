@@ -1,0 +1,3 @@
+-- The papers line by line, as the constant tables have them.
+pub mod Lines
+pub mod Laws
