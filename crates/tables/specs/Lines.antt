@@ -1,8 +1,8 @@
 -- The papers as the constant tables have them: the items that some paper has, each once; their chain parts and subfields line by line; and where each category keeps them.
-use mathlib.Core.Bool.{Bool, true, false}
+use mathlib.Core.Bool.{Bool, true, false, _&&_}
 use mathlib.Core.List.{List, [], _∷_, _++_}
 use Prim.Native.Nat.{ℕ, zero, suc, _+_, _-_, _*_, _^_, _/_, _%_}
-use lib.Dec.{ltb, eqb}
+use lib.Dec.{leb, eqb}
 use lib.IntN.{pos, negsuc}
 use lib.ListN.{length, getD, take}
 use lib.Signed.{leZ}
@@ -91,6 +91,12 @@ pieceOf o = pick (eqb (o / 32) 0) (spare (o % 32)) (num (kindOf (o / 32)) (o % 3
 unfoldable pub piecesFrom : ℕ → ℕ → List Piece
 piecesFrom zero code = []
 piecesFrom (suc n) code = pieceOf (code % 256) ∷ piecesFrom n (code / 256)
+
+-- no number is wider than 24 bits
+unfoldable pub narrow : List Piece → Bool
+narrow [] = true
+narrow (spare w ∷ ps) = narrow ps
+narrow (num k w ∷ ps) = leb w 24 && narrow ps
 
 abbrev pub rowOf : Line × ℕ → Row
 rowOf p = (p .0 .octets, spareMask (p .0), codeOf (p .0 .pieces), length (p .0 .pieces), p .0 .fx, p .1, p .0 .flag)

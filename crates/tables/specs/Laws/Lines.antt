@@ -12,7 +12,7 @@ use Rattle.codec.specs.Laws.Tests.{and-l, and-r}
 use Rattle.layout.specs.Cat048.{cat048}
 use Rattle.layout.specs.Cat021.{cat021}
 use Rattle.layout.specs.Cat007.{cat007}
-use Rattle.tables.specs.Lines.{items, noLine, placedFrom, placedIn, placed, placedAt, lineAt, firstAt, kindCode, codeOf, kindOf, pieceOf, piecesFrom}
+use Rattle.tables.specs.Lines.{items, noLine, placedFrom, placedIn, placed, placedAt, lineAt, firstAt, kindCode, codeOf, kindOf, pieceOf, piecesFrom, narrow}
 
 abbrev every : (Line × ℕ → Bool) → List (Line × ℕ) → Bool
 every f [] = true
@@ -27,6 +27,19 @@ every-at f (l ∷ ls) t d (suc b) = every-at f ls (and-r (f l) _ t) d b
 pub few-line-octets : (b : ℕ) → lineAt b .octets ≤ 6
 unfolding placedAt placed placedIn placedFrom linesOf items cat048 cat021 cat007
 few-line-octets b = leb→le (lineAt b .octets) 6 (every-at (λ p. leb (p .0 .octets) 6) placed tt tt b)
+
+-- it has at most eight pieces, one bit below them, and no number wider than 24 bits
+pub few-pieces : (b : ℕ) → length (lineAt b .pieces) ≤ 8
+unfolding placedAt placed placedIn placedFrom linesOf items cat048 cat021 cat007
+few-pieces b = leb→le (length (lineAt b .pieces)) 8 (every-at (λ p. leb (length (p .0 .pieces)) 8) placed tt tt b)
+
+pub few-fx : (b : ℕ) → lineAt b .fx ≤ 1
+unfolding placedAt placed placedIn placedFrom linesOf items cat048 cat021 cat007
+few-fx b = leb→le (lineAt b .fx) 1 (every-at (λ p. leb (p .0 .fx) 1) placed tt tt b)
+
+pub narrow-line : (b : ℕ) → T (narrow (lineAt b .pieces))
+unfolding narrow placedAt placed placedIn placedFrom linesOf items cat048 cat021 cat007
+narrow-line b = every-at (λ p. narrow (p .0 .pieces)) placed tt tt b
 
 -- a line is filled by its pieces
 pub line-filled : (b : ℕ) → T (fills (lineAt b))
