@@ -11,3 +11,4 @@ pub mod View
 pub mod Longest
 pub mod Within
 pub mod Change
+pub mod Long

@@ -95,7 +95,7 @@ fn number(d: u64, w: u64, kind: u64) -> i32
     signed(d, power(w))
 }
 
-fn between(z: i32, lo: i32, hi: i32) -> bool
+pub fn between(z: i32, lo: i32, hi: i32) -> bool
     ensures { λ r. ⌜ r ≡ inside lo hi z ⌝ }
 {
     if lo <= z {

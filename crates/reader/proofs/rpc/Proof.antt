@@ -1,0 +1,44 @@
+-- `reader::rpc` meets its contract: its chain, and then its four subfields one behind the other. Assumes nothing.
+use mathlib.Core.Path.{refl, sym}
+use native.Mathlib.Omega.{arith}
+use denote.Ref.{now}
+use Rattle.codec.specs.Line.{count}
+use Rattle.codec.specs.Item.{linesOf, slotsOf}
+use Rattle.layout.specs.Cat048.{cat048}
+use Rattle.layout.specs.Cat021.{cat021}
+use Rattle.layout.specs.Cat007.{cat007}
+use Rattle.tables.specs.Lines.{items, placedFrom, placedIn, placed, placedAt, itemAt}
+use Rattle.reader.specs.Walk.{stands-same}
+use Rattle.reader.specs.Chains.{linesFrom, partsOk, chainRoom}
+use Rattle.reader.specs.Items.{flagsUnder, itemOf, itemRun, moreFrom, item-from, chain-ready, chain-held}
+use Rattle.reader.proofs.rpc.Statement.{statement}
+use Rattle.reader.proofs.rpc.Tie as tie
+
+chain-requires : tie.Need-chain-requires
+unfolding partsOk chainRoom linesFrom placedAt placed placedIn placedFrom linesOf items cat048 cat021 cat007 count
+chain-requires c κs =
+    let s = c .before .before in
+    (omega arith, omega arith, tt, omega (arith, s .pre .0), chain-ready 19 0 (now (s .args .s)) (s .args .at) (s .args .base) (now (s .args .numbers)) refl (s .pre .1))
+
+returns : tie.Need-returns
+unfolding flagsUnder itemRun itemAt itemOf moreFrom linesFrom slotsOf placedAt placed placedIn placedFrom linesOf items cat048 cat021 cat007 count
+returns c =
+    let s4 = c in
+    let s3 = s4 .before .before in
+    let s2 = s3 .before .before in
+    let s1 = s2 .before .before in
+    let h = s1 .before .before in
+    let s = h .before .before .before in
+    let a = s .args in
+    let l = now (a .numbers) in
+    let xs = now (a .s) in
+    let h0 = chain-held 19 0 xs (a .at) (a .base) l refl (h .chain .ensures) in
+    let h1 = s1 .subfield .ensures l _ (s .pre .1) h0 in
+    let h2 = s2 .subfield2 .ensures l _ (s .pre .1) h1 in
+    let h3 = s3 .subfield3 .ensures l _ (s .pre .1) h2 in
+    let h4 = s4 .subfield4 .ensures l _ (s .pre .1) h3 in
+    stands-same (h4 .stand) (sym (item-from 19 0 4 xs (a .at) tt))
+
+pub rpc-spec : {M : Type 1} → statement M
+unfolding placedAt placed placedIn placedFrom linesOf items cat048 cat021 cat007 count
+rpc-spec = tie.close (tie.spec chain-requires (λ c κs. (omega arith, omega (arith, c .before .before .before .before .pre .0))) (λ c κs. (omega arith, omega (arith, c .before .before .before .before .before .before .pre .0))) (λ c κs. (omega arith, omega (arith, c .before .before .before .before .before .before .before .before .pre .0))) (λ c κs. (omega arith, omega (arith, c .before .before .before .before .before .before .before .before .before .before .pre .0))) returns)

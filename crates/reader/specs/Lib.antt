@@ -1,0 +1,4 @@
+-- What the code of the reader computes, level by level, and that it is what the codecs read.
+pub mod Walk
+pub mod Chains
+pub mod Items
