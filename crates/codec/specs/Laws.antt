@@ -12,3 +12,4 @@ pub mod Longest
 pub mod Within
 pub mod Change
 pub mod Long
+pub mod Arms

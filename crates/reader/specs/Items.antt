@@ -15,6 +15,7 @@ use Rattle.codec.specs.Item.{Item, chained, single, slotsOf, nothing, beside, c
 use Rattle.codec.specs.Laws.Tests.{and-l, and-r}
 use Rattle.codec.specs.Laws.Long.{LongBy, many, long-shift, long-line, long-opt, long-chain}
 use Rattle.tables.specs.Lines.{lineAt, firstAt, countAt, itemAt}
+use Rattle.tables.specs.Laws.Lines.{past-lines, past-item}
 use Rattle.lines.specs.Steps.{stepOf, afterOf, run, lineRun}
 use Rattle.lines.specs.Numbers.{inside}
 use Rattle.lines.specs.declared.Step.{Step}
@@ -222,7 +223,7 @@ item-from b left n xs at f = item-run (lineAt b) (linesFrom (b + 1) left) (lines
 
 -- what is held when the chain of an item has been read, and before it
 module _ (b left : ℕ) (xs : List ℕ) (at base : ℕ) (l : List ℤ) (z : firstAt b ≡ 0) where
-  same-base : base + firstAt b ≡ base
+  pub same-base : base + firstAt b ≡ base
   same-base = omega arith
 
   pub chain-ready : Ready l base → Ready l (base + firstAt b)
@@ -235,3 +236,24 @@ module _ (b left : ℕ) (xs : List ℕ) (at base : ℕ) (l : List ℤ) (z : firs
     stand = subst (λ i. Stands l i (run ((chain (lineAt b) (linesFrom (b + 1) left)) .read) xs at) r m) same-base (stands-same s (chain-whole b left xs at));
     count-is = chain-many (lineAt b) (linesFrom (b + 1) left) xs at;
   }
+
+-- ---- an item by its number, as the dispatch has it
+
+module _ (k : ℕ) (K : ℕ) (e : k ≡ K) (xs : List ℕ) (at base : ℕ) (l : List ℤ) {r : Step} {m : List ℤ} where
+  pub as-item : Stands l base (itemRun K xs at) r m → Stands l base (itemRun k xs at) r m
+  as-item s = subst (λ j. Stands l base (itemRun j xs at) r m) (sym e) s
+
+  -- an item that is one line
+  pub as-line : (b : ℕ) → firstAt b ≡ 0 → lineRun b xs at ≡ itemRun K xs at → r ≡ stepOf (lineRun b xs at) → m ≡ afterOf l (base + firstAt b) m (lineRun b xs at) → Stands l base (itemRun k xs at) r m
+  as-line b z q p a = as-item (subst (λ i. Stands l i (itemRun K xs at) r m) (same-base b 0 xs at base l z) (stands-same (stands p a) q))
+
+  -- an item that is a chain without subfields
+  pub as-chain : (b left : ℕ) → firstAt b ≡ 0 → run ((item (itemOf b left 0)) .read) xs at ≡ itemRun K xs at → Stands l (base + firstAt b) (chainRun 0 b left xs at) r m → Stands l base (itemRun k xs at) r m
+  unfolding moreFrom flagsUnder linesFrom
+  as-chain b left z q s = as-item (stands-same ((chain-held b left xs at base l z s) .stand) (sym (item-from b left 0 xs at tt) ∙ q))
+
+-- past the items there is an item without octets
+pub past-items : (k : ℕ) → 14 ≤ k → (xs : List ℕ) (at : ℕ) → lineRun 46 xs at ≡ itemRun k xs at
+unfolding lineRun itemRun item
+past-items k h xs at =
+    ap (λ (p : Line × ℕ). run ((line (p .0)) .read) xs at) (past-lines 46 (omega arith)) ∙ ap (λ it. run ((item it) .read) xs at) (sym (past-item k h))

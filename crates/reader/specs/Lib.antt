@@ -2,3 +2,6 @@
 pub mod Walk
 pub mod Chains
 pub mod Items
+pub mod Flags
+pub mod Rows
+pub mod Fields

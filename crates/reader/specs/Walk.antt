@@ -86,7 +86,7 @@ behind v y = mapRes (λ (w : Held). (w .0, v ++ w .1)) y
 
 -- ---- slots
 
-pub sets-append : (l : List ℤ) (slot : ℕ) (v w : List ℤ) → sets l slot (v ++ w) ≡ sets (sets l slot v) (slot + length v) w
+pub sets-append : {A : Type 0} (l : List A) (slot : ℕ) (v w : List A) → sets l slot (v ++ w) ≡ sets (sets l slot v) (slot + length v) w
 sets-append l slot [] w = ap (λ k. sets l k w) (omega arith)
 sets-append l slot (a ∷ v) w = sets-append (set l slot a) (suc slot) v w ∙ ap (λ k. sets (sets (set l slot a) (suc slot) v) k w) (omega arith)
 

@@ -3,17 +3,23 @@
 // Stands on lines, which reads one chain part or subfield by the tables.
 ghost use mathlib.Core.Path.{_≡_};
 ghost use mathlib.Core.List.{List};
-ghost use Prim.Native.Nat.{_+_, _-_, _≤_, _<_};
+ghost use Prim.Native.Nat.{_+_, _-_, _^_, _/_, _%_, _≤_, _<_};
 ghost use lib.Dec.{T};
 ghost use lib.IntN.{ℤ};
+ghost use lib.ListN.{drop, set};
 ghost use Rattle.codec.specs.Codec.{Res};
 ghost use Rattle.codec.specs.Line.{Held};
-ghost use Rattle.codec.specs.Item.{isOne};
-ghost use Rattle.tables.specs.Lines.{lineAt, firstAt, countAt};
+ghost use Rattle.codec.specs.Item.{isOne, slots};
+ghost use Rattle.codec.specs.Field.{flags, allZero};
+ghost use Rattle.tables.specs.Lines.{lineAt, firstAt, countAt, itemAt, spotAt};
 ghost use Rattle.lines.specs.Steps.{lineRun};
 ghost use Rattle.reader.specs.Walk.{Stands, Ready};
 ghost use Rattle.reader.specs.Chains.{chainRun, chainRoom, partsOk};
 ghost use Rattle.reader.specs.Items.{HeldSoFar, more, itemRun};
+ghost use Rattle.reader.specs.Rows.{spotOk, rowOk, placeRun, rowFrom, RowStands};
+use layout::Answer;
+use layout::Reading;
+use layout::Record;
 use lines::Step;
 
 // The rest of a chain behind its part b, which began at a place and was answered by a: left further parts are defined, done came before.
@@ -138,4 +144,105 @@ fn mes(s: &[u8], at: usize, base: usize, numbers: &mut [i32; 77]) -> Step
     let xp = subfield(s, em1, 42, base, &mut *numbers);
     let fom = subfield(s, xp, 43, base, &mut *numbers);
     subfield(s, fom, 44, base, &mut *numbers)
+}
+
+// One item of those that some paper has.
+fn item(s: &[u8], at: usize, k: usize, base: usize, numbers: &mut [i32; 77]) -> Step
+    requires { ⌜ (base + slots (itemAt k) ≤ 77) × Ready (now numbers) base ⌝ }
+    ensures { λ r. ⌜ Stands (now (numbers .entry)) base (itemRun k (now (s .entry)) at) r (now (numbers .exit)) ⌝ }
+{
+    match k {
+        0 => md5(s, at, base, &mut *numbers),
+        1 => m5n(s, at, base, &mut *numbers),
+        2 => chain(s, at, 18, base, 0, &mut *numbers),
+        3 => rpc(s, at, base, &mut *numbers),
+        4 => lines::line(s, at, 24, base, &mut *numbers),
+        5 => lines::line(s, at, 25, base, &mut *numbers),
+        6 => lines::line(s, at, 26, base, &mut *numbers),
+        7 => lines::line(s, at, 27, base, &mut *numbers),
+        8 => lines::line(s, at, 28, base, &mut *numbers),
+        9 => chain(s, at, 29, base, 1, &mut *numbers),
+        10 => chain(s, at, 31, base, 5, &mut *numbers),
+        11 => lines::line(s, at, 37, base, &mut *numbers),
+        12 => mes(s, at, base, &mut *numbers),
+        13 => lines::line(s, at, 45, base, &mut *numbers),
+        _ => lines::line(s, at, 46, base, &mut *numbers),
+    }
+}
+
+fn wide(b: u8) -> usize
+    ensures { λ r. ⌜ (r ≡ b) × (r < 256) ⌝ }
+{
+    b as usize
+}
+
+// The item at a spot, if it is there.
+fn place(s: &[u8], at: usize, k: usize, there: bool, numbers: &mut [i32; 77]) -> Step
+    requires { ⌜ T (spotOk k) × Ready (now numbers) (spotAt k .1) ⌝ }
+    ensures { λ r. ⌜ Stands (now (numbers .entry)) (spotAt k .1) (placeRun k there (now (s .entry)) at) r (now (numbers .exit)) ⌝ }
+{
+    if there {
+        let spot = tables::spot_at(k);
+        return item(s, at, wide(spot.0), wide(spot.1), &mut *numbers);
+    }
+    Step::Next(0, at)
+}
+
+// The bit of an item in the indicator, the first item's being the highest.
+fn bit(o: u8, i: usize) -> u8
+    requires { ⌜ i < 8 ⌝ }
+    ensures { λ r. ⌜ r ≡ o / 2 ^ (7 - i) % 2 ⌝ }
+{
+    (o >> ((7 - i) as u8)) % 2
+}
+
+fn put_part(parts: &mut [u8; 8], i: usize, p: u8)
+    requires { ⌜ i < 8 ⌝ }
+    ensures { λ _. ⌜ now (parts .exit) ≡ set (now (parts .entry)) i p ⌝ }
+{
+    parts[i] = p;
+}
+
+fn put_start(starts: &mut [usize; 9], i: usize, at: usize)
+    requires { ⌜ i < 9 ⌝ }
+    ensures { λ _. ⌜ now (starts .exit) ≡ set (now (starts .entry)) i at ⌝ }
+{
+    starts[i] = at;
+}
+
+// The n items from a spot on, each there if its bit of the indicator is 1: their numbers, their parts, and the place behind each.
+fn row(
+    s: &[u8],
+    first: usize,
+    n: usize,
+    ind: u8,
+    numbers: &mut [i32; 77],
+    parts: &mut [u8; 8],
+    starts: &mut [usize; 9],
+) -> Step
+    requires { ⌜ (n ≤ 8) × (first < 100) × T (rowOk first n) × (spotAt first .1 ≡ 0) × Ready (now numbers) 0 ⌝ }
+    ensures { λ r. ⌜ RowStands (now (numbers .entry)) (now (parts .entry)) (now (starts .entry)) (rowFrom first n (flags ind) (now (s .entry)) 2) r (now (numbers .exit)) (now (parts .exit)) (now (starts .exit)) ⌝ }
+{
+    let mut at: usize = 2;
+    let mut i: usize = 0;
+    while i < n {
+        let f = bit(ind, i);
+        let a = place(s, at, first + i, f == 1, &mut *numbers);
+        let Step::Next(p, next) = a else {
+            return a;
+        };
+        put_part(&mut *parts, i, p);
+        at = next;
+        i += 1;
+        put_start(&mut *starts, i, at);
+    }
+    Step::Next(0, at)
+}
+
+// Whether the places behind n items are 0 in the indicator.
+fn no_spare(ind: u8, n: usize) -> bool
+    requires { ⌜ n ≤ 8 ⌝ }
+    ensures { λ r. ⌜ r ≡ allZero (drop n (flags ind)) ⌝ }
+{
+    wide(ind) % (1usize << (8 - n)) == 0
 }

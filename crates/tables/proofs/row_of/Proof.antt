@@ -9,7 +9,7 @@ use Rattle.layout.specs.Cat021.{cat021}
 use Rattle.layout.specs.Cat007.{cat007}
 use Rattle.tables.specs.Lines.{items, placedFrom, placedIn, placed, placedAt, maskOf, spareMask, kindCode, codeOf, rowOf}
 use Rattle.tables.specs.Laws.Lines.{past-lines}
-use Rattle.tables.proofs.Arms.{past}
+use Rattle.codec.specs.Laws.Arms.{past}
 use Rattle.tables.proofs.row_of.Statement.{statement}
 use Rattle.tables.proofs.row_of.Tie as tie
 

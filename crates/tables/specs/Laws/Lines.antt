@@ -7,12 +7,12 @@ use lib.Dec.{T, leb, eqb, leb→le, eqb→eq}
 use lib.ListN.{length, getD, List·getD-map, List·getD-eq-default}
 use Rattle.codec.specs.Radix.{total, eights}
 use Rattle.codec.specs.Line.{Piece, Line, widths, count, fills}
-use Rattle.codec.specs.Item.{linesOf}
+use Rattle.codec.specs.Item.{single, linesOf}
 use Rattle.codec.specs.Laws.Tests.{and-l, and-r}
 use Rattle.layout.specs.Cat048.{cat048}
 use Rattle.layout.specs.Cat021.{cat021}
 use Rattle.layout.specs.Cat007.{cat007}
-use Rattle.tables.specs.Lines.{items, noLine, placedFrom, placedIn, placed, placedAt, lineAt, firstAt, kindCode, codeOf, kindOf, pieceOf, piecesFrom, narrow}
+use Rattle.tables.specs.Lines.{items, noLine, placedFrom, placedIn, placed, placedAt, lineAt, firstAt, kindCode, codeOf, kindOf, pieceOf, piecesFrom, narrow, itemAt}
 
 abbrev every : (Line × ℕ → Bool) → List (Line × ℕ) → Bool
 every f [] = true
@@ -66,3 +66,7 @@ pieces-right b =
 pub past-lines : (b : ℕ) → 46 ≤ b → placedAt b ≡ (noLine, 0)
 unfolding placedAt placed placedIn placedFrom linesOf items cat048 cat021 cat007
 past-lines b h = List·getD-eq-default placed (noLine, 0) h
+
+pub past-item : (k : ℕ) → 14 ≤ k → itemAt k ≡ single noLine
+unfolding itemAt items cat048 cat021 cat007
+past-item k h = List·getD-eq-default items (single noLine) h

@@ -1,0 +1,281 @@
+-- The whole field: what the code of the reader answers is what 01 defines.
+use mathlib.Core.Path.{_≡_, refl, sym, ap, ap₂, _∙_, subst, subst₂}
+use mathlib.Core.Bool.{Bool, true, false, _&&_}
+use mathlib.Core.List.{List, [], _∷_, _++_, append-nil}
+use Prim.Native.Nat.{ℕ, zero, suc, _+_, _-_, _≤_, _<_}
+use native.Mathlib.Omega.{arith}
+use borrow.Author.Tests.{ltb-true, ltb-false, eq-eqb, ne-eqb, eqb-true, eqb-false}
+use lib.Dec.{T, ltb, leb, eqb}
+use lib.IntN.{ℤ, pos}
+use lib.ListN.{length, getD, take, drop, set, replicate, length-append, length-replicate}
+use lib.Seq.{sets, length-take-le}
+use Rattle.codec.specs.Pick.{pick}
+use Rattle.codec.specs.Codec.{Octets, Res, got, bad, mapRes, shift, andThen, Codec, Lawful, opt, pairUp}
+use Rattle.codec.specs.Line.{Line, Held, count}
+use Rattle.codec.specs.Item.{Item, slotsOf, slots, linesOf, nothing, item}
+use Rattle.codec.specs.Field.{firstFlag, nextFlags, place, row, flags, allZero, noSpare, indicator, Contents, body, texts, textsOf}
+use Rattle.codec.specs.Frame.{Outcome, accepted, refused, lenOf, settle, readFrame}
+use Rattle.codec.specs.Laws.Codec.{number-one}
+use Rattle.codec.specs.Laws.Long.{LongBy, many}
+use Rattle.codec.specs.Laws.Frame.{mapOutcome, frame-empty, frame-small, frame-short, frame-whole}
+use Rattle.layout.specs.Cat048.{cat048}
+use Rattle.layout.specs.Cat021.{cat021}
+use Rattle.layout.specs.Cat007.{cat007}
+use Rattle.layout.specs.declared.Answer.{Answer}
+use Rattle.layout.specs.declared.Answer.the-variants.{Accepted, Refused}
+use Rattle.layout.specs.Papers.{known, paperOf, itemsOf}
+use Rattle.layout.specs.Record.{allParts, allNumbers, allSlots}
+use Rattle.layout.specs.Laws.Papers.{paper-048, paper-021, paper-007}
+use Rattle.tables.specs.Lines.{items, itemAt, spotsFrom, spots, spotAt, spotOf}
+use Rattle.lines.specs.Steps.{run}
+use Rattle.lines.specs.declared.Step.{Step}
+use Rattle.lines.specs.declared.Step.the-variants.{Next}
+use Rattle.lines.specs.declared.Step.the-variants as steps
+use Rattle.scope.specs.Reading.{fieldOf}
+use Rattle.reader.specs.Walk.{run-map, run-then, thenAt, map-map}
+use Rattle.reader.specs.Rows.{itemOn, spotOk, rowOk, placeRun, Found, found, goOn, rowFrom, rowStep, RowStands, place-many}
+
+-- ---- the tables' items are the paper's
+
+unfoldable pub itemsFrom : ℕ → ℕ → List Item
+itemsFrom k zero = []
+itemsFrom k (suc n) = itemOn k ∷ itemsFrom (k + 1) n
+
+-- what holds of the spots of a category: its items, slots that begin at 0 and follow each other
+pub record Spots (cat : ℕ) : Type 0 where
+  pub items-are : itemsFrom (spotOf cat) (itemsOf cat) ≡ paperOf cat
+  pub row-is : T (rowOk (spotOf cat) (itemsOf cat))
+  pub begins : spotAt (spotOf cat) .1 ≡ 0
+  pub few : spotOf cat < 100
+
+spots-of : (cat : ℕ) (its : List Item) (k : ℕ) → paperOf cat ≡ its → spotOf cat ≡ k → itemsFrom k (length its) ≡ its → T (rowOk k (length its)) → spotAt k .1 ≡ 0 → k < 100 → Spots cat
+spots-of cat its k ep ek ei r z h = record {
+  items-are = ap₂ (λ x y. itemsFrom x (length y)) ek ep ∙ ei ∙ sym ep;
+  row-is = subst (λ x. T (rowOk (spotOf cat) (length x))) (sym ep) (subst (λ x. T (rowOk x (length its))) (sym ek) r);
+  begins = ap (λ x. spotAt x .1) ek ∙ z;
+  few = subst (_< 100) (sym ek) h;
+}
+
+spots-048 : (cat : ℕ) → cat ≡ 48 → Spots cat
+unfolding itemsFrom rowOk spotOk spotOf spotAt spots spotsFrom itemAt items slots slotsOf count cat048 cat021 cat007
+spots-048 cat e = spots-of cat cat048 0 (paper-048 cat e .0) (rw e refl) refl tt refl (omega arith)
+
+spots-021 : (cat : ℕ) → cat ≡ 21 → Spots cat
+unfolding itemsFrom rowOk spotOk spotOf spotAt spots spotsFrom itemAt items slots slotsOf count cat048 cat021 cat007
+spots-021 cat e = spots-of cat cat021 5 (paper-021 cat e .0) (rw e refl) refl tt refl (omega arith)
+
+spots-007 : (cat : ℕ) → cat ≡ 7 → Spots cat
+unfolding itemsFrom rowOk spotOk spotOf spotAt spots spotsFrom itemAt items slots slotsOf count cat048 cat021 cat007
+spots-007 cat e = spots-of cat cat007 13 (paper-007 cat e .0) (rw e refl) refl tt refl (omega arith)
+
+pub spots-right : (cat : ℕ) → known cat ≡ true → Spots cat
+unfolding known
+spots-right cat h = go (eqb cat 48) refl (eqb cat 21) refl (eqb cat 7) refl
+  where
+    go : (x : Bool) → eqb cat 48 ≡ x → (y : Bool) → eqb cat 21 ≡ y → (z : Bool) → eqb cat 7 ≡ z → Spots cat
+    go true ex y ey z ez = spots-048 cat (eqb-true cat 48 ex)
+    go false ex true ey z ez = spots-021 cat (eqb-true cat 21 ey)
+    go false ex false ey true ez = spots-007 cat (eqb-true cat 7 ez)
+    go false ex false ey false ez =
+        let f : pick (eqb cat 48) true (pick (eqb cat 21) true (eqb cat 7)) ≡ false = rw (ex, ey, ez) refl in
+        let w : true ≡ false = sym h ∙ f in
+        let q : _≡_ {A = ℕ} 0 1 = cc in absurd (omega arith)
+
+-- ---- the row of the tables is the row of the codec
+
+held : Res Found → Res (List Held)
+held x = mapRes (λ (f : Found). f .0) x
+
+held-goes : (y : Res Held) (g : ℕ → Res Found) → held (goOn y g) ≡ mapRes (λ (p : Held × List Held). p .0 ∷ p .1) (thenAt y (λ v m. mapRes (pairUp v) (held (g m))))
+unfolding held
+held-goes (bad e p) g = refl
+held-goes (got v m) g = by (g m)
+  where
+    by : (x : Res Found) → held (found v m x) ≡ mapRes (λ (p : Held × List Held). p .0 ∷ p .1) (mapRes (pairUp v) (held x))
+    by (got f e) = refl
+    by (bad e p) = refl
+
+then-same : {B : Type 0} (y : Res Held) (f g : Held → ℕ → Res B) → ((v : Held) (m : ℕ) → f v m ≡ g v m) → thenAt y f ≡ thenAt y g
+then-same (got v m) f g h = h v m
+then-same (bad e p) f g h = refl
+
+row-held : (k n : ℕ) (ds xs : List ℕ) (at : ℕ) → held (rowFrom k n ds xs at) ≡ run ((row ds (itemsFrom k n)) .read) xs at
+unfolding rowFrom row itemsFrom held placeRun
+row-held k zero ds xs at = let z : at ≡ at + 0 = omega arith in ap (got []) z
+row-held k (suc n) ds xs at =
+    held-goes (placeRun k (eqb (firstFlag ds) 1) xs at) (λ m. rowFrom (k + 1) n (nextFlags ds) xs m)
+    ∙ ap (mapRes (λ (p : Held × List Held). p .0 ∷ p .1))
+    (then-same (placeRun k (eqb (firstFlag ds) 1) xs at) (λ v m. mapRes (pairUp v) (held (rowFrom (k + 1) n (nextFlags ds) xs m))) (λ v m. mapRes (pairUp v) (run ((row (nextFlags ds) (itemsFrom (k + 1) n)) .read) xs m))
+    (λ v m. ap (mapRes (pairUp v)) (row-held (k + 1) n (nextFlags ds) xs m)))
+    ∙ sym (run-map (λ (p : Held × List Held). p .0 ∷ p .1) (λ ys. andThen ys ((place (firstFlag ds) (itemOn k)) .read ys) (λ a r. mapRes (pairUp a) ((row (nextFlags ds) (itemsFrom (k + 1) n)) .read r))) xs at
+    ∙ ap (mapRes (λ (p : Held × List Held). p .0 ∷ p .1)) (run-then ((place (firstFlag ds) (itemOn k)) .read) (λ a. (row (nextFlags ds) (itemsFrom (k + 1) n)) .read) xs at))
+
+-- ---- the items of a field whose octets are xs, all up to LEN
+
+unfoldable pub ends : ℕ → Res Found → Outcome Found
+ends len (got f e) = pick (eqb e len) (accepted f) (refused 9 e)
+ends len (bad e p) = refused e p
+
+unfoldable pub itemsIn : ℕ → ℕ → List ℕ → Outcome Found
+unfolding ends
+itemsIn cat ind xs = pick (allZero (drop (itemsOf cat) (flags ind))) (ends (length xs) (rowFrom (spotOf cat) (itemsOf cat) (flags ind) xs 2)) (refused 4 1)
+
+-- every check of the reader
+unfoldable pub walkOf : ℕ → List ℕ → Outcome Found
+unfolding itemsIn
+walkOf cat [] = pick (known cat) (refused 2 0) (refused 1 0)
+walkOf cat (len ∷ t) =
+    pick (known cat)
+    (pick (ltb len 2) (refused 3 0) (pick (ltb (suc (length t)) len) (refused 2 0) (itemsIn cat (getD (len ∷ t) 1 0) (take len (len ∷ t)))))
+    (refused 1 0)
+
+-- ---- is 01's
+
+abbrev filled : ℕ → Outcome Found → Outcome Contents
+filled ind o = mapOutcome (λ (f : Found). (ind, f .0)) o
+
+settled : (ind m len : ℕ) (y : Res (List Held)) (x : Res Found) → suc (suc m) ≡ len → held x ≡ shift 2 y
+    → settle (suc m) (shift 1 (mapRes (pairUp ind) y)) ≡ filled ind (ends len x)
+unfolding settle ends held
+settled ind m len (got vs j) (bad e p) el h = let z : _≡_ {A = ℕ} 0 1 = cc in absurd (omega arith)
+settled ind m len (bad q r) (got f e) el h = let z : _≡_ {A = ℕ} 0 1 = cc in absurd (omega arith)
+settled ind m len (bad q r) (bad e p) el h =
+    let a : e ≡ q = cc in
+    let b : p ≡ 2 + r = cc in
+    let c : suc (1 + r) ≡ p = omega arith in
+    ap₂ refused (sym a) c
+settled ind m len (got vs j) (got f e) el h =
+    let a : f .0 ≡ vs = cc in
+    let b : e ≡ 2 + j = cc in
+    by (eqb (1 + j) (suc m)) refl a b
+  where
+    by : (t : Bool) → eqb (1 + j) (suc m) ≡ t → f .0 ≡ vs → e ≡ 2 + j → pick (eqb (1 + j) (suc m)) (accepted (ind, vs)) (refused 9 (suc (1 + j))) ≡ filled ind (pick (eqb e len) (accepted f) (refused 9 e))
+    by true et a b =
+        let w : 1 + j ≡ suc m = eqb-true (1 + j) (suc m) et in
+        let v : e ≡ len = omega arith in
+        rw (et, eq-eqb e len v) (ap (λ x. accepted (ind, x)) (sym a))
+    by false et a b =
+        let w : 1 + j ≡ suc m → ⊥ = eqb-false (1 + j) (suc m) et in
+        let v : e ≡ len → ⊥ = λ z. w (omega arith) in
+        let c : suc (1 + j) ≡ e = omega arith in
+        rw (et, ne-eqb e len v) (ap (refused 9) c)
+
+module _ (cat : ℕ) (h : known cat ≡ true) (ind m : ℕ) (r : List ℕ) (n : length r ≡ m) where
+  after-ind : settle (suc m) ((body (paperOf cat)) .read (ind ∷ r)) ≡ filled ind (itemsIn cat ind (suc (suc m) ∷ ind ∷ r))
+  unfolding body indicator itemsIn settle
+  after-ind = go (allZero (drop (itemsOf cat) (flags ind))) refl
+    where
+      same-row : held (rowFrom (spotOf cat) (itemsOf cat) (flags ind) (suc (suc m) ∷ ind ∷ r) 2) ≡ shift 2 ((row (flags ind) (paperOf cat)) .read r)
+      same-row =
+          row-held (spotOf cat) (itemsOf cat) (flags ind) (suc (suc m) ∷ ind ∷ r) 2
+          ∙ ap (λ its. run ((row (flags ind) its) .read) (suc (suc m) ∷ ind ∷ r) 2) ((spots-right cat h) .items-are)
+
+      go : (t : Bool) → allZero (drop (itemsOf cat) (flags ind)) ≡ t → settle (suc m) ((body (paperOf cat)) .read (ind ∷ r)) ≡ filled ind (itemsIn cat ind (suc (suc m) ∷ ind ∷ r))
+      go true e = rw (number-one ind r, e) (settled ind m (length (suc (suc m) ∷ ind ∷ r)) ((row (flags ind) (paperOf cat)) .read r) (rowFrom (spotOf cat) (itemsOf cat) (flags ind) (suc (suc m) ∷ ind ∷ r) 2) (ap (λ j. suc (suc j)) (sym n)) same-row)
+      go false e = rw (number-one ind r, e) refl
+
+pick-map : {A B : Type 0} (f : A → B) (b : Bool) (x y : Outcome A) → mapOutcome f (pick b x y) ≡ pick b (mapOutcome f x) (mapOutcome f y)
+pick-map f true x y = refl
+pick-map f false x y = refl
+
+-- the field behind LEN, where there are octets enough
+whole : (cat : ℕ) → known cat ≡ true → (len : ℕ) (t : List ℕ) → 2 ≤ len → len ≤ suc (length t)
+    → readFrame (body (paperOf cat)) (len ∷ t) ≡ filled (getD (len ∷ t) 1 0) (itemsIn cat (getD (len ∷ t) 1 0) (take len (len ∷ t)))
+whole cat k zero t h g = absurd (omega arith)
+whole cat k (suc zero) t h g = absurd (omega arith)
+whole cat k (suc (suc m)) [] h g = absurd (omega arith)
+whole cat k (suc (suc m)) (ind ∷ t) h g =
+    let e : suc (suc m) - 1 ≡ suc m = omega arith in
+    frame-whole (body (paperOf cat)) (suc (suc m)) (ind ∷ t) h g
+    ∙ ap (λ j. settle j ((body (paperOf cat)) .read (take j (ind ∷ t)))) e
+    ∙ after-ind cat k ind m (take m t) (length-take-le m t (omega arith))
+
+pub field-walk : (cat : ℕ) (s : List ℕ) → fieldOf cat s ≡ filled (getD s 1 0) (walkOf cat s)
+unfolding fieldOf walkOf
+field-walk cat [] = ap (λ x. pick (known cat) x (refused 1 0)) (frame-empty (body (paperOf cat))) ∙ sym (pick-map (λ (f : Found). (0, f .0)) (known cat) (refused 2 0) (refused 1 0))
+field-walk cat (len ∷ t) = go (known cat) refl
+  where
+    ind : ℕ
+    ind = getD (len ∷ t) 1 0
+
+    inner : known cat ≡ true → readFrame (body (paperOf cat)) (len ∷ t)
+        ≡ filled (getD (len ∷ t) 1 0) (pick (ltb len 2) (refused 3 0) (pick (ltb (suc (length t)) len) (refused 2 0) (itemsIn cat (getD (len ∷ t) 1 0) (take len (len ∷ t)))))
+    inner k = small (ltb len 2) refl
+      where
+        short : (b : Bool) → 2 ≤ len → ltb (suc (length t)) len ≡ b → readFrame (body (paperOf cat)) (len ∷ t) ≡ filled (getD (len ∷ t) 1 0) (pick b (refused 2 0) (itemsIn cat (getD (len ∷ t) 1 0) (take len (len ∷ t))))
+        short true h e = frame-short (body (paperOf cat)) len t h (ltb-true (suc (length t)) len e)
+        short false h e = whole cat k len t h (ltb-false (suc (length t)) len e)
+
+        small : (b : Bool) → ltb len 2 ≡ b → readFrame (body (paperOf cat)) (len ∷ t) ≡ filled (getD (len ∷ t) 1 0) (pick b (refused 3 0) (pick (ltb (suc (length t)) len) (refused 2 0) (itemsIn cat (getD (len ∷ t) 1 0) (take len (len ∷ t)))))
+        small true e = frame-small (body (paperOf cat)) len t (ltb-true len 2 e)
+        small false e = short (ltb (suc (length t)) len) (ltb-false len 2 e) refl
+
+    go : (b : Bool) → known cat ≡ b → pick b (readFrame (body (paperOf cat)) (len ∷ t)) (refused 1 0)
+        ≡ filled (getD (len ∷ t) 1 0) (pick b (pick (ltb len 2) (refused 3 0) (pick (ltb (suc (length t)) len) (refused 2 0) (itemsIn cat (getD (len ∷ t) 1 0) (take len (len ∷ t))))) (refused 1 0))
+    go true e = inner e
+    go false e = refl
+
+-- ---- what the code answers, and leaves in the three arrays; where it is refused nothing is said of them
+
+abbrev pub answerTo : ℕ → Outcome Found → Answer
+answerTo len (accepted f) = Accepted len
+answerTo len (refused e p) = Refused e p
+
+abbrev pub outAfter : {A : Type 0} → List A → ℕ → (Found → List A) → List A → Outcome Found → List A
+outAfter l slot of m (accepted f) = sets l slot (of f)
+outAfter l slot of m (refused e p) = m
+
+pub record WalkStands (l : List ℤ) (ps ss : List ℕ) (len : ℕ) (o : Outcome Found) (a : Answer) (m : List ℤ) (qs ts : List ℕ) : Type 0 where
+  pub answer : a ≡ answerTo len o
+  pub numbers : m ≡ outAfter l 0 (λ f. allNumbers (f .0)) m o
+  pub parts : qs ≡ outAfter ps 0 (λ f. allParts (f .0)) qs o
+  pub starts : ts ≡ outAfter ss 1 (λ f. f .1) ts o
+
+pub walk-refused : (l : List ℤ) (ps ss : List ℕ) (len : ℕ) {o : Outcome Found} {e p : ℕ} → o ≡ refused e p → WalkStands l ps ss len o (Refused e p) l ps ss
+walk-refused l ps ss len h = record { answer = rw h refl; numbers = rw h refl; parts = rw h refl; starts = rw h refl }
+
+pub walk-same : {l : List ℤ} {ps ss : List ℕ} {len len′ : ℕ} {o o′ : Outcome Found} {a : Answer} {m : List ℤ} {qs ts : List ℕ} → len ≡ len′ → o ≡ o′ → WalkStands l ps ss len o a m qs ts → WalkStands l ps ss len′ o′ a m qs ts
+walk-same {l} {ps} {ss} {a = a} {m = m} {qs = qs} {ts = ts} el eo w = subst₂ (λ j x. WalkStands l ps ss j x a m qs ts) el eo w
+
+-- the ways out of `items`
+module _ (cat ind : ℕ) (xs : List ℕ) (l : List ℤ) (ps ss : List ℕ) where
+  pub items-spare : allZero (drop (itemsOf cat) (flags ind)) ≡ false → WalkStands l ps ss (length xs) (itemsIn cat ind xs) (Refused 4 1) l ps ss
+  unfolding itemsIn
+  items-spare e = walk-refused l ps ss (length xs) (rw e refl)
+
+  module _ (e : allZero (drop (itemsOf cat) (flags ind)) ≡ true) {a : Step} {m : List ℤ} {qs ts : List ℕ} (w : RowStands l ps ss (rowFrom (spotOf cat) (itemsOf cat) (flags ind) xs 2) a m qs ts) where
+    found-row : {c n : ℕ} → a ≡ Next c n → (X : Type 0) → ((f : Found) → rowFrom (spotOf cat) (itemsOf cat) (flags ind) xs 2 ≡ got f n → X) → X
+    found-row {c} {n} ea X k = go (rowFrom (spotOf cat) (itemsOf cat) (flags ind) xs 2) refl (sym (w .step) ∙ ea)
+      where
+        go : (x : Res Found) → rowFrom (spotOf cat) (itemsOf cat) (flags ind) xs 2 ≡ x → rowStep x ≡ Next c n → X
+        go (got f j) ex es = let z : j ≡ n = cc in k f (ex ∙ ap (got f) z)
+        go (bad q r) ex es = let z : _≡_ {A = ℕ} 0 1 = cc in absurd (omega arith)
+
+    pub items-stop : {q r : ℕ} → a ≡ steps.Refused q r → WalkStands l ps ss (length xs) (itemsIn cat ind xs) (Refused q r) m qs ts
+    unfolding itemsIn ends
+    items-stop {q} {r} ea = go (rowFrom (spotOf cat) (itemsOf cat) (flags ind) xs 2) refl (sym (w .step) ∙ ea)
+      where
+        go : (x : Res Found) → rowFrom (spotOf cat) (itemsOf cat) (flags ind) xs 2 ≡ x → rowStep x ≡ steps.Refused q r → WalkStands l ps ss (length xs) (itemsIn cat ind xs) (Refused q r) m qs ts
+        go (got f j) ex es = let z : _≡_ {A = ℕ} 0 1 = cc in absurd (omega arith)
+        go (bad i j) ex es =
+            let a1 : i ≡ q = cc in
+            let a2 : j ≡ r = cc in
+            let o : itemsIn cat ind xs ≡ refused q r = rw (e, ex) (ap₂ refused a1 a2) in
+            record { answer = rw o refl; numbers = rw o refl; parts = rw o refl; starts = rw o refl }
+
+    pub items-left : {c n : ℕ} → a ≡ Next c n → (n ≡ length xs → ⊥) → WalkStands l ps ss (length xs) (itemsIn cat ind xs) (Refused 9 n) m qs ts
+    unfolding itemsIn ends
+    items-left {c} {n} ea z =
+        found-row ea (WalkStands l ps ss (length xs) (itemsIn cat ind xs) (Refused 9 n) m qs ts) λ f ef.
+        let o : itemsIn cat ind xs ≡ refused 9 n = rw (e, ef, ne-eqb n (length xs) z) refl in
+        record { answer = rw o refl; numbers = rw o refl; parts = rw o refl; starts = rw o refl }
+
+    all-found : {n : ℕ} (f : Found) → rowFrom (spotOf cat) (itemsOf cat) (flags ind) xs 2 ≡ got f n → n ≡ length xs → itemsIn cat ind xs ≡ accepted f
+    unfolding itemsIn ends
+    all-found {n} f ef z = rw (e, ef, eq-eqb n (length xs) z) refl
+
+    pub items-all : {c n : ℕ} → a ≡ Next c n → n ≡ length xs → WalkStands l ps ss (length xs) (itemsIn cat ind xs) (Accepted n) m qs ts
+    items-all {c} {n} ea z =
+        found-row ea (WalkStands l ps ss (length xs) (itemsIn cat ind xs) (Accepted n) m qs ts) λ f ef.
+        let o : itemsIn cat ind xs ≡ accepted f = all-found f ef z in
+        record { answer = rw o (ap Accepted z); numbers = w .numbers ∙ rw (ef, o) refl; parts = w .parts ∙ rw (ef, o) refl; starts = w .starts ∙ rw (ef, o) refl }
