@@ -4,7 +4,7 @@ use mathlib.Core.Bool.{Bool, true, false, _&&_}
 use mathlib.Core.List.{List, [], _∷_, _++_, append-nil}
 use Prim.Native.Nat.{ℕ, zero, suc, _+_, _-_, _≤_, _<_}
 use native.Mathlib.Omega.{arith}
-use borrow.Author.Tests.{ltb-true, ltb-false, eq-eqb, ne-eqb, eqb-true, eqb-false}
+use borrow.Author.Tests.{ltb-true, ltb-false, lt-ltb, le-ltb, eq-eqb, ne-eqb, eqb-true, eqb-false}
 use lib.Dec.{T, ltb, leb, eqb}
 use lib.IntN.{ℤ, pos}
 use lib.ListN.{length, getD, take, drop, set, replicate, length-append, length-replicate}
@@ -25,7 +25,7 @@ use Rattle.layout.specs.declared.Answer.{Answer}
 use Rattle.layout.specs.declared.Answer.the-variants.{Accepted, Refused}
 use Rattle.layout.specs.Papers.{known, paperOf, itemsOf}
 use Rattle.layout.specs.Record.{allParts, allNumbers, allSlots}
-use Rattle.layout.specs.Laws.Papers.{paper-048, paper-021, paper-007}
+use Rattle.layout.specs.Laws.Papers.{few-items, paper-048, paper-021, paper-007}
 use Rattle.tables.specs.Lines.{items, itemAt, spotsFrom, spots, spotAt, spotOf}
 use Rattle.lines.specs.Steps.{run}
 use Rattle.lines.specs.declared.Step.{Step}
@@ -225,6 +225,11 @@ abbrev pub outAfter : {A : Type 0} → List A → ℕ → (Found → List A) →
 outAfter l slot of m (accepted f) = sets l slot (of f)
 outAfter l slot of m (refused e p) = m
 
+-- what a row of items that stopped answers
+abbrev pub told : Step → Answer
+told (Next c n) = Accepted n
+told (steps.Refused e p) = Refused e p
+
 pub record WalkStands (l : List ℤ) (ps ss : List ℕ) (len : ℕ) (o : Outcome Found) (a : Answer) (m : List ℤ) (qs ts : List ℕ) : Type 0 where
   pub answer : a ≡ answerTo len o
   pub numbers : m ≡ outAfter l 0 (λ f. allNumbers (f .0)) m o
@@ -251,17 +256,21 @@ module _ (cat ind : ℕ) (xs : List ℕ) (l : List ℤ) (ps ss : List ℕ) where
         go (got f j) ex es = let z : j ≡ n = cc in k f (ex ∙ ap (got f) z)
         go (bad q r) ex es = let z : _≡_ {A = ℕ} 0 1 = cc in absurd (omega arith)
 
-    pub items-stop : {q r : ℕ} → a ≡ steps.Refused q r → WalkStands l ps ss (length xs) (itemsIn cat ind xs) (Refused q r) m qs ts
+    stop-found : {q r : ℕ} → rowStep (rowFrom (spotOf cat) (itemsOf cat) (flags ind) xs 2) ≡ steps.Refused q r → itemsIn cat ind xs ≡ refused q r
     unfolding itemsIn ends
-    items-stop {q} {r} ea = go (rowFrom (spotOf cat) (itemsOf cat) (flags ind) xs 2) refl (sym (w .step) ∙ ea)
+    stop-found {q} {r} es = go (rowFrom (spotOf cat) (itemsOf cat) (flags ind) xs 2) refl es
       where
-        go : (x : Res Found) → rowFrom (spotOf cat) (itemsOf cat) (flags ind) xs 2 ≡ x → rowStep x ≡ steps.Refused q r → WalkStands l ps ss (length xs) (itemsIn cat ind xs) (Refused q r) m qs ts
+        go : (x : Res Found) → rowFrom (spotOf cat) (itemsOf cat) (flags ind) xs 2 ≡ x → rowStep x ≡ steps.Refused q r → itemsIn cat ind xs ≡ refused q r
         go (got f j) ex es = let z : _≡_ {A = ℕ} 0 1 = cc in absurd (omega arith)
         go (bad i j) ex es =
             let a1 : i ≡ q = cc in
             let a2 : j ≡ r = cc in
-            let o : itemsIn cat ind xs ≡ refused q r = rw (e, ex) (ap₂ refused a1 a2) in
-            record { answer = rw o refl; numbers = rw o refl; parts = rw o refl; starts = rw o refl }
+            rw (e, ex) (ap₂ refused a1 a2)
+
+    pub items-stop : {q r : ℕ} → a ≡ steps.Refused q r → {x : Answer} → x ≡ told a → WalkStands l ps ss (length xs) (itemsIn cat ind xs) x m qs ts
+    items-stop {q} {r} ea ex =
+        let o : itemsIn cat ind xs ≡ refused q r = stop-found (sym (w .step) ∙ ea) in
+        record { answer = ex ∙ ap told ea ∙ rw o refl; numbers = rw o refl; parts = rw o refl; starts = rw o refl }
 
     pub items-left : {c n : ℕ} → a ≡ Next c n → (n ≡ length xs → ⊥) → WalkStands l ps ss (length xs) (itemsIn cat ind xs) (Refused 9 n) m qs ts
     unfolding itemsIn ends
@@ -279,3 +288,66 @@ module _ (cat ind : ℕ) (xs : List ℕ) (l : List ℤ) (ps ss : List ℕ) where
         found-row ea (WalkStands l ps ss (length xs) (itemsIn cat ind xs) (Accepted n) m qs ts) λ f ef.
         let o : itemsIn cat ind xs ≡ accepted f = all-found f ef z in
         record { answer = rw o (ap Accepted z); numbers = w .numbers ∙ rw (ef, o) refl; parts = w .parts ∙ rw (ef, o) refl; starts = w .starts ∙ rw (ef, o) refl }
+
+-- `row` may be called, and what it gives is of the category's row
+pub row-asks : (cat : ℕ) → known cat ≡ true → {k n : ℕ} → k ≡ spotOf cat → n ≡ itemsOf cat → {X : Type 0} → X → (n ≤ 8) × (k < 100) × T (rowOk k n) × (spotAt k .1 ≡ 0) × X
+row-asks cat h ek en x =
+    let s : Spots cat = spots-right cat h in
+    rw (ek, en) (few-items cat, s .few, s .row-is, s .begins, x)
+
+pub row-of : (cat : ℕ) (ds xs : List ℕ) {k n : ℕ} → k ≡ spotOf cat → n ≡ itemsOf cat → {l : List ℤ} {ps ss : List ℕ} {a : Step} {m : List ℤ} {qs ts : List ℕ}
+    → RowStands l ps ss (rowFrom k n ds xs 2) a m qs ts → RowStands l ps ss (rowFrom (spotOf cat) (itemsOf cat) ds xs 2) a m qs ts
+row-of cat ds xs ek en {l} {ps} {ss} {a} {m} {qs} {ts} w = subst₂ (λ j i. RowStands l ps ss (rowFrom j i ds xs 2) a m qs ts) ek en w
+
+-- ---- the ways out of `walk`
+
+other-is : (cat : ℕ) (s : List ℕ) → known cat ≡ false → walkOf cat s ≡ refused 1 0
+unfolding walkOf
+other-is cat [] h = rw h refl
+other-is cat (len ∷ t) h = rw h refl
+
+len-is : (s : List ℕ) → lenOf s ≡ getD s 0 0
+unfolding lenOf
+len-is [] = refl
+len-is (x ∷ t) = refl
+
+module _ (cat : ℕ) (h : known cat ≡ true) where
+  empty-is : (s : List ℕ) → length s ≡ 0 → walkOf cat s ≡ refused 2 0
+  unfolding walkOf
+  empty-is [] e = rw h refl
+  empty-is (len ∷ t) e = absurd (omega arith)
+
+  small-is : (s : List ℕ) → (length s ≡ 0 → ⊥) → getD s 0 0 < 2 → walkOf cat s ≡ refused 3 0
+  unfolding walkOf
+  small-is [] z k = absurd (z refl)
+  small-is (len ∷ t) z k = rw (h, lt-ltb len 2 k) refl
+
+  short-is : (s : List ℕ) → (length s ≡ 0 → ⊥) → 2 ≤ getD s 0 0 → length s < getD s 0 0 → walkOf cat s ≡ refused 2 0
+  unfolding walkOf
+  short-is [] z k g = absurd (z refl)
+  short-is (len ∷ t) z k g = rw (h, le-ltb len 2 k, lt-ltb (suc (length t)) len g) refl
+
+  long-is : (s : List ℕ) → (length s ≡ 0 → ⊥) → 2 ≤ getD s 0 0 → getD s 0 0 ≤ length s → walkOf cat s ≡ itemsIn cat (getD s 1 0) (take (getD s 0 0) s)
+  unfolding walkOf
+  long-is [] z k g = absurd (z refl)
+  long-is (len ∷ t) z k g = rw (h, le-ltb len 2 k, le-ltb (suc (length t)) len g) refl
+
+module _ (cat : ℕ) (s : List ℕ) (l : List ℤ) (ps ss : List ℕ) where
+  pub walk-other : known cat ≡ false → WalkStands l ps ss (lenOf s) (walkOf cat s) (Refused 1 0) l ps ss
+  walk-other h = walk-refused l ps ss (lenOf s) (other-is cat s h)
+
+  module _ (h : known cat ≡ true) where
+    pub walk-empty : length s ≡ 0 → WalkStands l ps ss (lenOf s) (walkOf cat s) (Refused 2 0) l ps ss
+    walk-empty z = walk-refused l ps ss (lenOf s) (empty-is cat h s z)
+
+    module _ (some : length s ≡ 0 → ⊥) {n : ℕ} (en : n ≡ getD s 0 0) where
+      pub walk-small : n < 2 → WalkStands l ps ss (lenOf s) (walkOf cat s) (Refused 3 0) l ps ss
+      walk-small k = walk-refused l ps ss (lenOf s) (small-is cat h s some (subst (_< 2) en k))
+
+      pub walk-short : 2 ≤ n → length s < n → WalkStands l ps ss (lenOf s) (walkOf cat s) (Refused 2 0) l ps ss
+      walk-short k g = walk-refused l ps ss (lenOf s) (short-is cat h s some (subst (2 ≤_) en k) (subst (length s <_) en g))
+
+      pub walk-items : 2 ≤ n → n ≤ length s → {a : Answer} {m : List ℤ} {qs ts : List ℕ} → WalkStands l ps ss (length (take n s)) (itemsIn cat (getD s 1 0) (take n s)) a m qs ts → WalkStands l ps ss (lenOf s) (walkOf cat s) a m qs ts
+      walk-items k g w =
+          walk-same (length-take-le n s g ∙ en ∙ sym (len-is s))
+          (ap (λ j. itemsIn cat (getD s 1 0) (take j s)) en ∙ sym (long-is cat h s some (subst (2 ≤_) en k) (subst (_≤ length s) en g))) w

@@ -2,11 +2,12 @@
 // Promises: both answer what 01 defines, for every category and every octet string; octets from LEN on are never looked at.
 // Stands on lines, which reads one chain part or subfield by the tables.
 ghost use mathlib.Core.Path.{_≡_};
+ghost use mathlib.Core.Bool.{true};
 ghost use mathlib.Core.List.{List};
 ghost use Prim.Native.Nat.{_+_, _-_, _^_, _/_, _%_, _≤_, _<_};
 ghost use lib.Dec.{T};
 ghost use lib.IntN.{ℤ};
-ghost use lib.ListN.{drop, set};
+ghost use lib.ListN.{length, drop, set};
 ghost use Rattle.codec.specs.Codec.{Res};
 ghost use Rattle.codec.specs.Line.{Held};
 ghost use Rattle.codec.specs.Item.{isOne, slots};
@@ -16,6 +17,9 @@ ghost use Rattle.lines.specs.Steps.{lineRun};
 ghost use Rattle.reader.specs.Walk.{Stands, Ready};
 ghost use Rattle.reader.specs.Chains.{chainRun, chainRoom, partsOk};
 ghost use Rattle.reader.specs.Items.{HeldSoFar, more, itemRun};
+ghost use Rattle.codec.specs.Frame.{lenOf};
+ghost use Rattle.layout.specs.Papers.{known};
+ghost use Rattle.reader.specs.Fields.{told, itemsIn, walkOf, WalkStands};
 ghost use Rattle.reader.specs.Rows.{spotOk, rowOk, placeRun, rowFrom, RowStands};
 use layout::Answer;
 use layout::Reading;
@@ -245,4 +249,69 @@ fn no_spare(ind: u8, n: usize) -> bool
     ensures { λ r. ⌜ r ≡ allZero (drop n (flags ind)) ⌝ }
 {
     wide(ind) % (1usize << (8 - n)) == 0
+}
+
+fn refusal(a: Step) -> Answer
+    ensures { λ r. ⌜ r ≡ told a ⌝ }
+{
+    match a {
+        Step::Next(_, n) => Answer::Accepted(n),
+        Step::Refused(e, p) => Answer::Refused(e, p),
+    }
+}
+
+// The items of a field that ends with its slice, and that nothing is left behind them.
+fn items(
+    s: &[u8],
+    cat: u8,
+    ind: u8,
+    numbers: &mut [i32; 77],
+    parts: &mut [u8; 8],
+    starts: &mut [usize; 9],
+) -> Answer
+    requires { ⌜ (known cat ≡ true) × Ready (now numbers) 0 ⌝ }
+    ensures { λ r. ⌜ WalkStands (now (numbers .entry)) (now (parts .entry)) (now (starts .entry)) (length (now (s .entry))) (itemsIn cat ind (now (s .entry))) r (now (numbers .exit)) (now (parts .exit)) (now (starts .exit)) ⌝ }
+{
+    let n = layout::items_of(cat);
+    let first = tables::spot_of(cat);
+    if no_spare(ind, n) {
+        let a = row(s, first, n, ind, &mut *numbers, &mut *parts, &mut *starts);
+        let Step::Next(_, next) = a else {
+            return refusal(a);
+        };
+        if next == s.len() {
+            return Answer::Accepted(next);
+        }
+        return Answer::Refused(9, next);
+    }
+    Answer::Refused(4, 1)
+}
+
+// Every check of the reader, in 01's order.
+fn walk(
+    cat: u8,
+    field: &[u8],
+    numbers: &mut [i32; 77],
+    parts: &mut [u8; 8],
+    starts: &mut [usize; 9],
+) -> Answer
+    requires { ⌜ Ready (now numbers) 0 ⌝ }
+    ensures { λ r. ⌜ WalkStands (now (numbers .entry)) (now (parts .entry)) (now (starts .entry)) (lenOf (now (field .entry))) (walkOf cat (now (field .entry))) r (now (numbers .exit)) (now (parts .exit)) (now (starts .exit)) ⌝ }
+{
+    if layout::is_known(cat) {
+        if field.len() == 0 {
+            return Answer::Refused(2, 0);
+        }
+        let len = wide(field[0]);
+        if len < 2 {
+            return Answer::Refused(3, 0);
+        }
+        if field.len() < len {
+            return Answer::Refused(2, 0);
+        }
+        let ind = field[1];
+        let f = &field[..len];
+        return items(f, cat, ind, &mut *numbers, &mut *parts, &mut *starts);
+    }
+    Answer::Refused(1, 0)
 }
