@@ -5,3 +5,5 @@ pub mod Items
 pub mod Flags
 pub mod Rows
 pub mod Fields
+pub mod Whole
+pub mod Surveys

@@ -19,6 +19,8 @@ ghost use Rattle.reader.specs.Chains.{chainRun, chainRoom, partsOk};
 ghost use Rattle.reader.specs.Items.{HeldSoFar, more, itemRun};
 ghost use Rattle.codec.specs.Frame.{lenOf};
 ghost use Rattle.layout.specs.Papers.{known};
+ghost use Rattle.scope.specs.Reading.{readOf};
+ghost use Rattle.reader.specs.Surveys.{surveyOf};
 ghost use Rattle.reader.specs.Fields.{told, itemsIn, walkOf, WalkStands};
 ghost use Rattle.reader.specs.Rows.{spotOk, rowOk, placeRun, rowFrom, RowStands};
 use layout::Answer;
@@ -314,4 +316,63 @@ fn walk(
         return items(f, cat, ind, &mut *numbers, &mut *parts, &mut *starts);
     }
     Answer::Refused(1, 0)
+}
+
+// A field of a category, whatever follows it.
+pub fn read(cat: u8, field: &[u8]) -> Reading
+    ensures { λ r. ⌜ r ≡ readOf cat (now (field .entry)) ⌝ }
+{
+    let mut numbers = [0i32; 77];
+    let mut parts = [0u8; 8];
+    let mut starts = [0usize; 9];
+    let a = walk(cat, field, &mut numbers, &mut parts, &mut starts);
+    let Answer::Accepted(_) = a else {
+        let z = Record {
+            cat: 0,
+            items: 0,
+            parts: [0u8; 8],
+            numbers: [0i32; 77],
+        };
+        return Reading { answer: a, kept: z };
+    };
+    let kept = Record {
+        cat: cat,
+        items: field[1],
+        parts: parts,
+        numbers: numbers,
+    };
+    Reading {
+        answer: a,
+        kept: kept,
+    }
+}
+
+// The answer, the indicator, and where each item begins, an absent one with the next; behind the last item where the field ends.
+pub struct Surveyed {
+    pub answer: Answer,
+    pub items: u8,
+    pub starts: [usize; 9],
+}
+
+// Where the items of a field stand.
+pub fn survey(cat: u8, field: &[u8]) -> Surveyed
+    ensures { λ r. ⌜ r ≡ surveyOf cat (now (field .entry)) ⌝ }
+{
+    let mut numbers = [0i32; 77];
+    let mut parts = [0u8; 8];
+    let mut starts = [0usize; 9];
+    starts[0] = 2;
+    let a = walk(cat, field, &mut numbers, &mut parts, &mut starts);
+    let Answer::Accepted(_) = a else {
+        return Surveyed {
+            answer: a,
+            items: 0,
+            starts: [0usize; 9],
+        };
+    };
+    Surveyed {
+        answer: a,
+        items: field[1],
+        starts: starts,
+    }
 }

@@ -1,0 +1,115 @@
+-- What `survey` answers: where each item begins, behind the last item where the field ends.
+use mathlib.Core.Path.{_≡_, refl, sym, ap, ap₂, _∙_, subst}
+use mathlib.Core.Bool.{Bool, true, false, _&&_}
+use mathlib.Core.List.{List, [], _∷_, _++_}
+use Prim.Native.Nat.{ℕ, zero, suc, _+_, _-_, _≤_, _<_}
+use native.Mathlib.Omega.{arith}
+use lib.Dec.{T, ltb, eqb, lt→ltb}
+use lib.IntN.{ℤ, pos}
+use lib.ListN.{length, getD, take, drop, replicate, length-replicate}
+use lib.Pow.{areBytes}
+use lib.Seq.{sets, sets-eq, length-take-le}
+use Rattle.codec.specs.Codec.{Octets, Res, got, bad, shift, Codec, Lawful, Was, opt}
+use Rattle.codec.specs.Line.{Held}
+use Rattle.codec.specs.Item.{Item, slots, nothing, item, goodItem}
+use Rattle.codec.specs.Field.{uncons, firstFlag, nextFlags, place, flags, Contents, goodItems, texts, textsOf}
+use Rattle.codec.specs.Frame.{Outcome, accepted, refused, lenOf}
+use Rattle.codec.specs.Laws.Tests.{and-in, and-l, and-r}
+use Rattle.codec.specs.Laws.Codec.{octets-drop, octets-take, lawful-opt}
+use Rattle.codec.specs.Laws.Item.{only-nothing, lawful-item}
+use Rattle.layout.specs.declared.Answer.{Answer}
+use Rattle.layout.specs.declared.Answer.the-variants.{Accepted, Refused}
+use Rattle.layout.specs.Papers.{paperOf, itemsOf}
+use Rattle.layout.specs.Laws.Papers.{good-paper, few-items}
+use Rattle.scope.specs.Reading.{fieldOf}
+use Rattle.tables.specs.Lines.{spotOf}
+use Rattle.reader.specs.declared.Surveyed.{Surveyed}
+use Rattle.reader.specs.Rows.{itemOn, placeRun, Found, found, goOn, rowFrom}
+use Rattle.reader.specs.Fields.{itemsFrom, spots-right, walkOf, answerTo, outAfter, WalkStands}
+use Rattle.reader.specs.Whole.{Sized, found-sized, drop-replicate, Walked, walked, walk-found, walk-fell, field-found, field-fell}
+
+-- texts behind each other from a place on: where each begins, and where the last ends
+unfoldable pub startsFrom : ℕ → List (List ℕ) → List ℕ
+startsFrom at [] = at ∷ []
+startsFrom at (t ∷ ts) = at ∷ startsFrom (at + length t) ts
+
+unfoldable pub surveyed : ℕ → List ℕ → Outcome Contents → Surveyed
+unfolding startsFrom
+surveyed cat s (accepted r) = record { answer = Accepted (lenOf s); items = r .0; starts = startsFrom 2 (textsOf (paperOf cat) r) ++ replicate (8 - itemsOf cat) 0 }
+surveyed cat s (refused n p) = record { answer = Refused n p; items = 0; starts = replicate 9 0 }
+
+unfoldable pub surveyOf : ℕ → List ℕ → Surveyed
+unfolding surveyed
+surveyOf cat s = surveyed cat s (fieldOf cat s)
+
+-- ---- the places that a row finds are where its texts end
+
+place-end : (k : ℕ) (t : Bool) → T (goodItem (itemOn k)) → (xs : List ℕ) → Octets xs → (at : ℕ) (v : Held) (m : ℕ) → placeRun k t xs at ≡ got v m
+    → at + length ((opt (nothing (slots (itemOn k))) t (item (itemOn k))) .write v) ≡ m
+unfolding placeRun
+place-end k t g xs o at v m e = go ((opt (nothing (slots (itemOn k))) t (item (itemOn k))) .read (drop at xs)) refl e
+  where
+    go : (x : Res Held) → (opt (nothing (slots (itemOn k))) t (item (itemOn k))) .read (drop at xs) ≡ x → shift at x ≡ got v m → at + length ((opt (nothing (slots (itemOn k))) t (item (itemOn k))) .write v) ≡ m
+    go (bad q p) ex h = let z : _≡_ {A = ℕ} 0 1 = cc in absurd (omega arith)
+    go (got u n) ex h =
+        let eu : u ≡ v = cc in
+        let em : at + n ≡ m = cc in
+        let w : Was (opt (nothing (slots (itemOn k))) t (item (itemOn k))) (drop at xs) u n = (lawful-opt (only-nothing (slots (itemOn k))) t (lawful-item (itemOn k) g)) .back (drop at xs) (octets-drop at xs o) u n ex in
+        ap (λ x. at + length ((opt (nothing (slots (itemOn k))) t (item (itemOn k))) .write x)) (sym eu) ∙ ap (at +_) (ap length (sym (w .took)) ∙ length-take-le n (drop at xs) (w .within)) ∙ em
+
+abbrev RowStarts : ℕ → List ℕ → List Item → Res Found → Type 0
+RowStarts at ds its (got f e) = _≡_ {A = List ℕ} (at ∷ f .1) (startsFrom at (texts ds its (f .0)))
+RowStarts at ds its (bad e p) = Unit {0}
+
+row-starts : (k n : ℕ) → T (goodItems (itemsFrom k n)) → (ds xs : List ℕ) → Octets xs → (at : ℕ) → RowStarts at ds (itemsFrom k n) (rowFrom k n ds xs at)
+unfolding rowFrom itemsFrom startsFrom texts goodItems uncons
+row-starts k zero g ds xs o at = refl
+row-starts k (suc n) g ds xs o at =
+    by (λ m. row-starts (k + 1) n (and-r (goodItem (itemOn k)) _ g) (nextFlags ds) xs o m) (placeRun k (eqb (firstFlag ds) 1) xs at) (place-end k (eqb (firstFlag ds) 1) (and-l (goodItem (itemOn k)) _ g) xs o at)
+  where
+    next : (v : Held) (m : ℕ) → at + length ((place (firstFlag ds) (itemOn k)) .write v) ≡ m → (x : Res Found) → RowStarts m (nextFlags ds) (itemsFrom (k + 1) n) x → RowStarts at ds (itemOn k ∷ itemsFrom (k + 1) n) (found v m x)
+    next v m l (bad e p) s = tt
+    next v m l (got f e) s = ap (at ∷_) (s ∙ ap (λ j. startsFrom j (texts (nextFlags ds) (itemsFrom (k + 1) n) (f .0))) (sym l))
+
+    by : ((m : ℕ) → RowStarts m (nextFlags ds) (itemsFrom (k + 1) n) (rowFrom (k + 1) n (nextFlags ds) xs m))
+        → (y : Res Held) → ((v : Held) (m : ℕ) → y ≡ got v m → at + length ((place (firstFlag ds) (itemOn k)) .write v) ≡ m)
+        → RowStarts at ds (itemOn k ∷ itemsFrom (k + 1) n) (goOn y (λ m. rowFrom (k + 1) n (nextFlags ds) xs m))
+    by ih (bad e p) l = tt
+    by ih (got v m) l = next v m (l v m refl) (rowFrom (k + 1) n (nextFlags ds) xs m) (ih m)
+
+-- octets, one by one
+pub octets-all : (xs : List ℕ) → ((i : ℕ) → getD xs i 0 < 256) → Octets xs
+octets-all [] h = tt
+octets-all (x ∷ xs) h = and-in (ltb x 256) _ (lt→ltb x 256 (h 0)) (octets-all xs (λ i. h (suc i)))
+
+-- ---- the ways out of `survey`
+
+module _ (cat : ℕ) (s : List ℕ) {a : Answer} {l m : List ℤ} {ps qs ts : List ℕ} (w : WalkStands l ps (2 ∷ replicate 8 0) (lenOf s) (walkOf cat s) a m qs ts) where
+  pub survey-refused : {q r : ℕ} → a ≡ Refused q r → _≡_ {A = Surveyed} (record { answer = a; items = 0; starts = replicate 9 0 }) (surveyOf cat s)
+  unfolding surveyOf surveyed
+  survey-refused ea = rw (field-fell cat s (walk-fell w ea), ea) refl
+
+  starts-are : Octets s → (f : Found) → walkOf cat s ≡ accepted f → ts ≡ startsFrom 2 (textsOf (paperOf cat) (getD s 1 0, f .0)) ++ replicate (8 - itemsOf cat) 0
+  unfolding textsOf
+  starts-are o f ef =
+      let k : Walked cat s f = walked cat s f ef in
+      let n : ℕ = itemsOf cat in
+      let ei : itemsFrom (spotOf cat) n ≡ paperOf cat = (spots-right cat (k .known-is)) .items-are in
+      let ep : length (f .1) ≡ n = (found-sized cat s f k) .places in
+      let few : n ≤ 8 = few-items cat in
+      let g : 1 + length (f .1) ≤ length {A = ℕ} (2 ∷ replicate 8 0) = omega arith in
+      let q : 1 + length (f .1) ≡ suc (length (f .1)) = omega arith in
+      let es : 2 ∷ f .1 ≡ startsFrom 2 (texts (flags (getD s 1 0)) (itemsFrom (spotOf cat) n) (f .0))
+      = subst (RowStarts 2 (flags (getD s 1 0)) (itemsFrom (spotOf cat) n)) (k .row-is) (row-starts (spotOf cat) n (subst (λ x. T (goodItems x)) (sym ei) (good-paper cat)) (flags (getD s 1 0)) (take (lenOf s) s) (octets-take (lenOf s) s o) 2) in
+      w .starts ∙ ap (outAfter (2 ∷ replicate 8 0) 1 (λ f. f .1) ts) ef
+      ∙ sets-eq (f .1) (2 ∷ replicate 8 0) 1 g
+      ∙ ap (λ x. (2 ∷ f .1) ++ x) (ap (λ j. drop j (2 ∷ replicate 8 0)) q ∙ drop-replicate 0 (length (f .1)) 8 ∙ ap (λ j. replicate (8 - j) 0) ep)
+      ∙ ap (_++ replicate (8 - n) 0) (es ∙ ap (λ its. startsFrom 2 (texts (flags (getD s 1 0)) its (f .0))) ei)
+
+  pub survey-accepted : Octets s → {n : ℕ} → a ≡ Accepted n → _≡_ {A = Surveyed} (record { answer = a; items = getD s 1 0; starts = ts }) (surveyOf cat s)
+  unfolding surveyOf surveyed
+  survey-accepted o ea =
+      walk-found w ea (_≡_ {A = Surveyed} (record { answer = a; items = getD s 1 0; starts = ts }) (surveyOf cat s)) λ f ef.
+      let el : a ≡ Accepted (lenOf s) = w .answer ∙ ap (answerTo (lenOf s)) ef in
+      (λ i. record { answer = el i; items = getD s 1 0; starts = starts-are o f ef i })
+      ∙ sym (ap (surveyed cat s) (field-found cat s f ef))
