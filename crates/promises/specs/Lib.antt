@@ -4,3 +4,4 @@ pub mod Longest
 pub mod Views
 pub mod Edits
 pub mod Refusals
+pub mod Unique

@@ -1,0 +1,149 @@
+// The view of an item and the choice between two fields (01, 'Views and the choice between two fields').
+// Promises: the answers and the parts are those that 01 defines, for every input. Stands on reader, which it knows by its contracts.
+ghost use mathlib.Core.Path.{_≡_};
+ghost use Prim.Native.Nat.{ℕ, _+_, _-_, _^_, _/_, _%_, _≤_, _<_};
+ghost use lib.ListN.{length};
+ghost use Rattle.layout.specs.declared.View.the-variants.{Shown};
+ghost use Rattle.scope.specs.Views.{viewOf, partOf, chooseOf, chosenOf};
+ghost use Rattle.views.specs.Standing.{Rising, standsAt};
+ghost use Rattle.views.specs.Choosing.{chosenView};
+use layout::Answer;
+use layout::Choice;
+use layout::View;
+use layout::Which;
+
+fn wide(b: u8) -> usize
+    ensures { λ r. ⌜ (r ≡ b) × (r < 256) ⌝ }
+{
+    b as usize
+}
+
+// The bit of an item in the indicator, the first item's being the highest.
+fn bit(o: u8, i: usize) -> u8
+    requires { ⌜ i < 8 ⌝ }
+    ensures { λ r. ⌜ r ≡ o / 2 ^ (7 - i) % 2 ⌝ }
+{
+    (o >> ((7 - i) as u8)) % 2
+}
+
+// Where an item of a category stands in an accepted field, by its indicator and where each item begins.
+fn standing(cat: u8, items: u8, starts: [usize; 9], item: u8) -> View
+    requires { ⌜ Rising cat starts ⌝ }
+    ensures { λ r. ⌜ r ≡ standsAt cat items starts item ⌝ }
+{
+    let i = wide(item);
+    let n = layout::items_of(cat);
+    if i == 0 {
+        return View::Hidden(12, 0);
+    }
+    if n < i {
+        return View::Hidden(12, 0);
+    }
+    if bit(items, i - 1) == 1 {
+        let from = starts[i - 1];
+        let to = starts[i];
+        return View::Shown(from, to - from);
+    }
+    View::Hidden(15, 0)
+}
+
+// The first offset and the length of an item, or the refusal.
+pub fn view_answer(cat: u8, field: &[u8], item: u8) -> View
+    ensures { λ r. ⌜ r ≡ viewOf cat (now (field .entry)) item ⌝ }
+{
+    let v = reader::survey(cat, field);
+    let a = v.answer;
+    if let Answer::Refused(e, p) = a {
+        return View::Hidden(e, p);
+    }
+    let starts = v.starts;
+    standing(cat, v.items, starts, item)
+}
+
+// The part of a field that a view shows.
+fn part<'a>(field: &'a [u8], v: View) -> &'a [u8]
+    requires { ⌜ ((a m : ℕ) → v ≡ Shown a m → a + m ≤ length (now field)) ⌝ }
+    ensures { λ r. ⌜ now r ≡ partOf (now (field .entry)) v ⌝ }
+{
+    let View::Shown(from, n) = v else {
+        return &field[..0];
+    };
+    &field[from..from + n]
+}
+
+// The item's part of the field; the empty part where nothing can be shown.
+pub fn view<'a>(cat: u8, field: &'a [u8], item: u8) -> &'a [u8]
+    ensures { λ r. ⌜ now r ≡ partOf (now (field .entry)) (viewOf cat (now (field .entry)) item) ⌝ }
+{
+    let v = view_answer(cat, field, item);
+    part(field, v)
+}
+
+// The view of an item in the correction where it is there, else in the base.
+fn chosen(base: View, correction: View) -> Choice
+    ensures { λ r. ⌜ r ≡ chosenView base correction ⌝ }
+{
+    if let View::Shown(_, _) = correction {
+        return Choice {
+            which: Which::Correction,
+            view: correction,
+        };
+    }
+    if let View::Shown(_, _) = base {
+        return Choice {
+            which: Which::Base,
+            view: base,
+        };
+    }
+    Choice {
+        which: Which::Neither,
+        view: base,
+    }
+}
+
+// Where the item stands in the correction, or else in the base; or the refusal, and which field it is of.
+pub fn choose_answer(cat: u8, base: &[u8], correction: &[u8], item: u8) -> Choice
+    ensures { λ r. ⌜ r ≡ chooseOf cat (now (base .entry)) (now (correction .entry)) item ⌝ }
+{
+    if layout::is_known(cat) {
+        let b = reader::survey(cat, base);
+        let r = b.answer;
+        if let Answer::Refused(e, p) = r {
+            return Choice {
+                which: Which::Base,
+                view: View::Hidden(e, p),
+            };
+        }
+        let c = reader::survey(cat, correction);
+        let q = c.answer;
+        if let Answer::Refused(e, p) = q {
+            return Choice {
+                which: Which::Correction,
+                view: View::Hidden(e, p),
+            };
+        }
+        let bs = b.starts;
+        let cs = c.starts;
+        let x = standing(cat, b.items, bs, item);
+        let y = standing(cat, c.items, cs, item);
+        return chosen(x, y);
+    }
+    Choice {
+        which: Which::Neither,
+        view: View::Hidden(1, 0),
+    }
+}
+
+// The item's part of the correction where it is there, else of the base; the empty part where nothing can be shown.
+pub fn choose<'a>(cat: u8, base: &'a [u8], correction: &'a [u8], item: u8) -> &'a [u8]
+    ensures { λ r. ⌜ now r ≡ chosenOf (now (base .entry)) (now (correction .entry)) (chooseOf cat (now (base .entry)) (now (correction .entry)) item) ⌝ }
+{
+    let c = choose_answer(cat, base, correction, item);
+    let v = c.view;
+    let w = c.which;
+    match w {
+        Which::Neither => &base[..0],
+        Which::Base => part(base, v),
+        Which::Correction => part(correction, v),
+    }
+}
