@@ -42,6 +42,10 @@ unfoldable pub surveyOf : ℕ → List ℕ → Surveyed
 unfolding surveyed
 surveyOf cat s = surveyed cat s (fieldOf cat s)
 
+-- the promise of `survey` allows one result
+pub one-survey : (cat : ℕ) (s : List ℕ) {r r′ : Surveyed} → r ≡ surveyOf cat s → r′ ≡ surveyOf cat s → r ≡ r′
+one-survey cat s p q = p ∙ sym q
+
 -- ---- the places that a row finds are where its texts end
 
 place-end : (k : ℕ) (t : Bool) → T (goodItem (itemOn k)) → (xs : List ℕ) → Octets xs → (at : ℕ) (v : Held) (m : ℕ) → placeRun k t xs at ≡ got v m

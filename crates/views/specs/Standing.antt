@@ -9,6 +9,8 @@ use lib.Dec.{leb, eqb}
 use lib.ListN.{getD}
 use Rattle.codec.specs.Pick.{pick}
 use Rattle.codec.specs.Field.{flags}
+use Rattle.layout.specs.declared.Answer.{Answer}
+use Rattle.layout.specs.declared.Answer.the-variants.{Accepted, Refused}
 use Rattle.layout.specs.declared.View.{View}
 use Rattle.layout.specs.declared.View.the-variants.{Shown, Hidden}
 use Rattle.layout.specs.Papers.{paperOf, itemsOf}
@@ -25,6 +27,11 @@ standsAt cat ind starts item =
     pick (isItem (paperOf cat) item)
     (pick (eqb (getD (flags ind) (item - 1) 0) 1) (Shown (getD starts (item - 1) 0) (getD starts item 0 - getD starts (item - 1) 0)) (Hidden 15 0))
     (Hidden 12 0)
+
+-- all of a field, or its refusal
+abbrev pub asView : Answer → View
+asView (Accepted n) = Shown 0 n
+asView (Refused e p) = Hidden e p
 
 -- one law for each way out
 module _ (cat ind : ℕ) (starts : List ℕ) (item : ℕ) {i : ℕ} (ei : i ≡ item) {n : ℕ} (en : n ≡ itemsOf cat) where

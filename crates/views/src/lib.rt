@@ -5,7 +5,7 @@ ghost use Prim.Native.Nat.{ℕ, _+_, _-_, _^_, _/_, _%_, _≤_, _<_};
 ghost use lib.ListN.{length};
 ghost use Rattle.layout.specs.declared.View.the-variants.{Shown};
 ghost use Rattle.scope.specs.Views.{viewOf, partOf, chooseOf, chosenOf};
-ghost use Rattle.views.specs.Standing.{Rising, standsAt};
+ghost use Rattle.views.specs.Standing.{Rising, standsAt, asView};
 ghost use Rattle.views.specs.Choosing.{chosenView};
 use layout::Answer;
 use layout::Choice;
@@ -47,15 +47,25 @@ fn standing(cat: u8, items: u8, starts: [usize; 9], item: u8) -> View
     View::Hidden(15, 0)
 }
 
+// A field as a view of itself: all of it, or its refusal unchanged.
+fn as_view(a: Answer) -> View
+    ensures { λ r. ⌜ r ≡ asView a ⌝ }
+{
+    match a {
+        Answer::Accepted(n) => View::Shown(0, n),
+        Answer::Refused(e, p) => View::Hidden(e, p),
+    }
+}
+
 // The first offset and the length of an item, or the refusal.
 pub fn view_answer(cat: u8, field: &[u8], item: u8) -> View
     ensures { λ r. ⌜ r ≡ viewOf cat (now (field .entry)) item ⌝ }
 {
     let v = reader::survey(cat, field);
     let a = v.answer;
-    if let Answer::Refused(e, p) = a {
-        return View::Hidden(e, p);
-    }
+    let Answer::Accepted(_) = a else {
+        return as_view(a);
+    };
     let starts = v.starts;
     standing(cat, v.items, starts, item)
 }
@@ -108,20 +118,20 @@ pub fn choose_answer(cat: u8, base: &[u8], correction: &[u8], item: u8) -> Choic
     if layout::is_known(cat) {
         let b = reader::survey(cat, base);
         let r = b.answer;
-        if let Answer::Refused(e, p) = r {
+        let Answer::Accepted(_) = r else {
             return Choice {
                 which: Which::Base,
-                view: View::Hidden(e, p),
+                view: as_view(r),
             };
-        }
+        };
         let c = reader::survey(cat, correction);
         let q = c.answer;
-        if let Answer::Refused(e, p) = q {
+        let Answer::Accepted(_) = q else {
             return Choice {
                 which: Which::Correction,
-                view: View::Hidden(e, p),
+                view: as_view(q),
             };
-        }
+        };
         let bs = b.starts;
         let cs = c.starts;
         let x = standing(cat, b.items, bs, item);
