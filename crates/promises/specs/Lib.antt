@@ -5,3 +5,4 @@ pub mod Views
 pub mod Edits
 pub mod Refusals
 pub mod Unique
+pub mod RoundTrips
