@@ -3,7 +3,7 @@
 
 Writes crates/vectors/stdin and crates/vectors/stdout, the same octets at every run. crates/vectors/src/main.rt says what a request is.
 A generator below gives fields of a category; its first line says what it aims at. An item is (name, chain parts, subfields), as in papers.py.
-There are few enough vectors for the interpreter of `rt try`, which stops after ten million steps; the program takes nine million of them.
+There are few enough vectors for the interpreter of `rt try`, which stops after ten million steps.
 """
 import random
 from collections import defaultdict
