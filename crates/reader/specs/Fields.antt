@@ -225,10 +225,10 @@ abbrev pub outAfter : {A : Type 0} → List A → ℕ → (Found → List A) →
 outAfter l slot of m (accepted f) = sets l slot (of f)
 outAfter l slot of m (refused e p) = m
 
--- what a row of items that stopped answers
-abbrev pub told : Step → Answer
-told (Next c n) = Accepted n
-told (steps.Refused e p) = Refused e p
+-- a step as an answer: how far it came, or its refusal unchanged
+abbrev pub asAnswer : Step → Answer
+asAnswer (Next c n) = Accepted n
+asAnswer (steps.Refused e p) = Refused e p
 
 pub record WalkStands (l : List ℤ) (ps ss : List ℕ) (len : ℕ) (o : Outcome Found) (a : Answer) (m : List ℤ) (qs ts : List ℕ) : Type 0 where
   pub answer : a ≡ answerTo len o
@@ -267,10 +267,10 @@ module _ (cat ind : ℕ) (xs : List ℕ) (l : List ℤ) (ps ss : List ℕ) where
             let a2 : j ≡ r = cc in
             rw (e, ex) (ap₂ refused a1 a2)
 
-    pub items-stop : {q r : ℕ} → a ≡ steps.Refused q r → {x : Answer} → x ≡ told a → WalkStands l ps ss (length xs) (itemsIn cat ind xs) x m qs ts
+    pub items-stop : {q r : ℕ} → a ≡ steps.Refused q r → {x : Answer} → x ≡ asAnswer a → WalkStands l ps ss (length xs) (itemsIn cat ind xs) x m qs ts
     items-stop {q} {r} ea ex =
         let o : itemsIn cat ind xs ≡ refused q r = stop-found (sym (w .step) ∙ ea) in
-        record { answer = ex ∙ ap told ea ∙ rw o refl; numbers = rw o refl; parts = rw o refl; starts = rw o refl }
+        record { answer = ex ∙ ap asAnswer ea ∙ rw o refl; numbers = rw o refl; parts = rw o refl; starts = rw o refl }
 
     pub items-left : {c n : ℕ} → a ≡ Next c n → (n ≡ length xs → ⊥) → WalkStands l ps ss (length xs) (itemsIn cat ind xs) (Refused 9 n) m qs ts
     unfolding itemsIn ends

@@ -21,7 +21,7 @@ ghost use Rattle.reader.specs.Walk.{Stands, Ready};
 ghost use Rattle.reader.specs.Chains.{chainRun, chainRoom, partsOk};
 ghost use Rattle.reader.specs.Items.{HeldSoFar, more, itemRun};
 ghost use Rattle.reader.specs.Rows.{spotOk, rowOk, placeRun, rowFrom, RowStands};
-ghost use Rattle.reader.specs.Fields.{told, itemsIn, walkOf, WalkStands};
+ghost use Rattle.reader.specs.Fields.{asAnswer, itemsIn, walkOf, WalkStands};
 ghost use Rattle.reader.specs.Surveys.{surveyOf};
 use layout::Answer;
 use layout::Reading;
@@ -253,8 +253,9 @@ fn no_spare(ind: u8, n: usize) -> bool
     wide(ind) % (1usize << (8 - n)) == 0
 }
 
-fn refusal(a: Step) -> Answer
-    ensures { λ r. ⌜ r ≡ told a ⌝ }
+// A step as the answer: how far it came, or its refusal unchanged.
+fn as_answer(a: Step) -> Answer
+    ensures { λ r. ⌜ r ≡ asAnswer a ⌝ }
 {
     match a {
         Step::Next(_, n) => Answer::Accepted(n),
@@ -279,7 +280,7 @@ fn items(
     if no_spare(ind, n) {
         let a = row(s, first, n, ind, &mut *numbers, &mut *parts, &mut *starts);
         let Step::Next(_, next) = a else {
-            return refusal(a);
+            return as_answer(a);
         };
         if next == s.len() {
             return Answer::Accepted(next);

@@ -32,7 +32,7 @@ returns c =
     let a = n .before .before .args in
     let e = i .before .no-spare .ensures in
     items-stop (a .cat) (a .ind) (now (a .s)) (now (a .numbers)) (now (a .parts)) (now (a .starts))
-    (ap (λ j. allZero (drop j (flags (a .ind)))) (sym (n .items-of .ensures)) ∙ sym e ∙ i .if1 .taken) (row-of (a .cat) (flags (a .ind)) (now (a .s)) (k .spot-of .ensures) (n .items-of .ensures) (r .row .ensures)) (c .before .enum-told .given .1) (c .refusal .ensures)
+    (ap (λ j. allZero (drop j (flags (a .ind)))) (sym (n .items-of .ensures)) ∙ sym e ∙ i .if1 .taken) (row-of (a .cat) (flags (a .ind)) (now (a .s)) (k .spot-of .ensures) (n .items-of .ensures) (r .row .ensures)) (c .before .enum-told .given .1) (c .as-answer .ensures)
 
 returns-2 : tie.Need-returns-2
 returns-2 c =
