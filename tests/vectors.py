@@ -402,14 +402,19 @@ def covered(made):
     return counts, places
 
 
-made = list(dict.fromkeys(requests()))
-counts, places = covered(made)
-asked = b"".join(map(packed, made))
-assert len(asked) <= BUFFER, len(asked)
-told = "".join(line_of(request) + "\n" for request in made)
-(CRATE / "stdin").write_bytes(asked)
-(CRATE / "stdout").write_text(told)
-for cat in PAPERS:
-    reached = " ".join(f"{number}:{len(places[cat, number])}" for number in range(2, 10))
-    print(f"category {cat}: {counts[cat]} vectors; places of each refusal of the reader: {reached}")
-print(f"{len(made)} vectors, {len(asked)} octets asked, {len(told)} octets told")
+def main():
+    made = list(dict.fromkeys(requests()))
+    counts, places = covered(made)
+    asked = b"".join(map(packed, made))
+    assert len(asked) <= BUFFER, len(asked)
+    told = "".join(line_of(request) + "\n" for request in made)
+    (CRATE / "stdin").write_bytes(asked)
+    (CRATE / "stdout").write_text(told)
+    for cat in PAPERS:
+        reached = " ".join(f"{number}:{len(places[cat, number])}" for number in range(2, 10))
+        print(f"category {cat}: {counts[cat]} vectors; places of each refusal of the reader: {reached}")
+    print(f"{len(made)} vectors, {len(asked)} octets asked, {len(told)} octets told")
+
+
+if __name__ == "__main__":
+    main()
