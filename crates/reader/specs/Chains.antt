@@ -15,9 +15,9 @@ use Rattle.codec.specs.Item.{slotsOf, nothing, beside, chain}
 use Rattle.codec.specs.Laws.Tests.{and-l, and-r, not-one}
 use Rattle.codec.specs.Laws.Long.{LongBy, many, long-shift, long-line, Under, under-line, under-shift}
 use Rattle.tables.specs.Lines.{lineAt, firstAt, countAt}
-use Rattle.lines.specs.Steps.{stepOf, afterOf, run, lineRun}
-use Rattle.lines.specs.declared.Step.{Step}
-use Rattle.lines.specs.declared.Step.the-variants.{Next, Refused}
+use Rattle.reader.specs.Steps.{stepOf, afterOf, run, lineRun}
+use Rattle.reader.specs.declared.lines.Step.{Step}
+use Rattle.reader.specs.declared.lines.Step.the-variants.{Next, Refused}
 use Rattle.reader.specs.Walk.{Stands, stands-bad, stands-got, stands-behind, stood, fell, behind, Ready, ready-after, sets-append, sets-zeros, map-map, run-map, beside-bad, beside-got}
 
 -- n lines from line b on

@@ -27,10 +27,10 @@ use Rattle.layout.specs.Papers.{known, paperOf, itemsOf}
 use Rattle.layout.specs.Record.{allParts, allNumbers, allSlots}
 use Rattle.layout.specs.Laws.Papers.{few-items, paper-048, paper-021, paper-007}
 use Rattle.tables.specs.Lines.{items, itemAt, spotsFrom, spots, spotAt, spotOf}
-use Rattle.lines.specs.Steps.{run}
-use Rattle.lines.specs.declared.Step.{Step}
-use Rattle.lines.specs.declared.Step.the-variants.{Next}
-use Rattle.lines.specs.declared.Step.the-variants as steps
+use Rattle.reader.specs.Steps.{run}
+use Rattle.reader.specs.declared.lines.Step.{Step}
+use Rattle.reader.specs.declared.lines.Step.the-variants.{Next}
+use Rattle.reader.specs.declared.lines.Step.the-variants as steps
 use Rattle.scope.specs.Reading.{fieldOf}
 use Rattle.reader.specs.Walk.{run-map, run-then, thenAt, map-map}
 use Rattle.reader.specs.Rows.{itemOn, spotOk, rowOk, placeRun, Found, found, goOn, rowFrom, rowStep, RowStands, place-many}

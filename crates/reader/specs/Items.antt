@@ -16,10 +16,10 @@ use Rattle.codec.specs.Laws.Tests.{and-l, and-r}
 use Rattle.codec.specs.Laws.Long.{LongBy, many, long-shift, long-line, long-opt, long-chain}
 use Rattle.tables.specs.Lines.{lineAt, firstAt, countAt, itemAt}
 use Rattle.tables.specs.Laws.Lines.{past-lines, past-item}
-use Rattle.lines.specs.Steps.{stepOf, afterOf, run, lineRun}
-use Rattle.lines.specs.Numbers.{inside}
-use Rattle.lines.specs.declared.Step.{Step}
-use Rattle.lines.specs.declared.Step.the-variants.{Next, Refused}
+use Rattle.reader.specs.Steps.{stepOf, afterOf, run, lineRun}
+use Rattle.reader.specs.Numbers.{inside}
+use Rattle.reader.specs.declared.lines.Step.{Step}
+use Rattle.reader.specs.declared.lines.Step.the-variants.{Next, Refused}
 use Rattle.reader.specs.Chains.{linesFrom, chainRun, chain-whole}
 use Rattle.reader.specs.Walk.{Stands, stands, stands-bad, stands-got, stands-same, stood, fell, stepped, stopped, Ready, ready-after, sets-append, sets-zeros, getD-sets-at, map-map, run-map, beside-bad, beside-got}
 

@@ -1,4 +1,7 @@
 -- What the code of the reader computes, level by level, and that it is what the codecs read.
+pub mod Numbers
+pub mod Steps
+pub mod Lines
 pub mod Walk
 pub mod Chains
 pub mod Items

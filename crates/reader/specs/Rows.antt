@@ -19,9 +19,9 @@ use Rattle.codec.specs.Laws.Tests.{and-l, and-r}
 use Rattle.codec.specs.Laws.Long.{LongBy, many, long-shift, long-opt, long-item}
 use Rattle.layout.specs.Record.{allParts, allNumbers}
 use Rattle.tables.specs.Lines.{itemAt, spotAt}
-use Rattle.lines.specs.Steps.{run}
-use Rattle.lines.specs.declared.Step.{Step}
-use Rattle.lines.specs.declared.Step.the-variants.{Next, Refused}
+use Rattle.reader.specs.Steps.{run}
+use Rattle.reader.specs.declared.lines.Step.{Step}
+use Rattle.reader.specs.declared.lines.Step.the-variants.{Next, Refused}
 use Rattle.reader.specs.Walk.{Stands, stands-bad, stands-got, stands-same, stood, fell, Ready, ready-after, sets-append, sets-zeros}
 use Rattle.reader.specs.Items.{itemRun}
 

@@ -10,9 +10,9 @@ use lib.Seq.{sets, drop-drop, set-getD, getD-set-other, getD-set-same, length-se
 use Rattle.codec.specs.Codec.{Res, got, bad, shift, mapRes, andThen, Codec, pairUp}
 use Rattle.codec.specs.Line.{Held}
 use Rattle.codec.specs.Item.{beside}
-use Rattle.lines.specs.Steps.{stepOf, afterOf, run}
-use Rattle.lines.specs.declared.Step.{Step}
-use Rattle.lines.specs.declared.Step.the-variants.{Next, Refused}
+use Rattle.reader.specs.Steps.{stepOf, afterOf, run}
+use Rattle.reader.specs.declared.lines.Step.{Step}
+use Rattle.reader.specs.declared.lines.Step.the-variants.{Next, Refused}
 
 -- what a reading promises: the answer, and the slots afterwards
 pub record Stands (l : List ℤ) (slot : ℕ) (x : Res Held) (r : Step) (m : List ℤ) : Type 0 where

@@ -1,6 +1,6 @@
 // Reads a field of a category: `read` gives the answer and the record, `survey` the answer and where each item begins.
 // Promises: both answer what 01 defines, for every category and every octet string; octets from LEN on are never looked at.
-// Stands on lines, which reads one chain part or subfield by the tables.
+// Stands on tables; its module lines reads one chain part or subfield by its row.
 ghost use mathlib.Core.Path.{_≡_};
 ghost use mathlib.Core.Bool.{true};
 ghost use mathlib.Core.List.{List};
@@ -16,13 +16,16 @@ ghost use Rattle.codec.specs.Frame.{lenOf};
 ghost use Rattle.layout.specs.Papers.{known};
 ghost use Rattle.scope.specs.Reading.{readOf};
 ghost use Rattle.tables.specs.Lines.{lineAt, firstAt, countAt, itemAt, spotAt};
-ghost use Rattle.lines.specs.Steps.{lineRun};
+ghost use Rattle.reader.specs.Steps.{lineRun};
 ghost use Rattle.reader.specs.Walk.{Stands, Ready};
 ghost use Rattle.reader.specs.Chains.{chainRun, chainRoom, partsOk};
 ghost use Rattle.reader.specs.Items.{HeldSoFar, more, itemRun};
 ghost use Rattle.reader.specs.Rows.{spotOk, rowOk, placeRun, rowFrom, RowStands};
 ghost use Rattle.reader.specs.Fields.{asAnswer, itemsIn, walkOf, WalkStands};
 ghost use Rattle.reader.specs.Surveys.{surveyOf};
+
+mod lines;
+
 use layout::Answer;
 use layout::Reading;
 use layout::Record;

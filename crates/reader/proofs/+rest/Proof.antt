@@ -13,7 +13,7 @@ use borrow.Fn.PlainCycle.{Measures, is, falls, and}
 use Rattle.reader.proofs.rest.Reads as rest
 use Rattle.reader.proofs.rest.Kinds as rest-kinds
 use Rattle.reader.proofs.+rest.Lts-rest as rest-lts
-use Rattle.lines.proofs.line.Reads as line-reads
+use Rattle.reader.proofs.lines.line.Reads as line-reads
 use Rattle.reader.proofs.+rest.{statement}
 use Rattle.reader.proofs.+rest.Tie.{close}
 

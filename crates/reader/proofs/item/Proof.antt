@@ -10,7 +10,7 @@ use Rattle.layout.specs.Cat048.{cat048}
 use Rattle.layout.specs.Cat021.{cat021}
 use Rattle.layout.specs.Cat007.{cat007}
 use Rattle.tables.specs.Lines.{items, placedFrom, placedIn, placed, placedAt, itemAt}
-use Rattle.lines.specs.Steps.{lineRun}
+use Rattle.reader.specs.Steps.{lineRun}
 use Rattle.reader.specs.Chains.{linesFrom, partsOk, chainRoom}
 use Rattle.reader.specs.Items.{flagsUnder, itemOf, itemRun, chain-ready, as-item, as-line, as-chain, past-items}
 use Rattle.reader.proofs.item.Statement.{statement}

@@ -10,8 +10,8 @@ ghost use Rattle.codec.specs.Signed.{toSigned};
 ghost use Rattle.codec.specs.Radix.{join, eights};
 ghost use Rattle.codec.specs.Line.{toNum, limit, inLimits};
 ghost use Rattle.tables.specs.Lines.{firstAt, countAt, kindOf, piecesFrom, narrow};
-ghost use Rattle.lines.specs.Numbers.{inside, numsAt};
-ghost use Rattle.lines.specs.Steps.{stepOf, afterOf, lineRun};
+ghost use Rattle.reader.specs.Numbers.{inside, numsAt};
+ghost use Rattle.reader.specs.Steps.{stepOf, afterOf, lineRun};
 
 // How far reading came: FX of a part or the parts of a chain, and the next place; or a refusal and its place.
 pub enum Step {

@@ -22,9 +22,9 @@ use Rattle.tables.specs.declared.Row.{Row}
 use Rattle.tables.specs.Lines.{placedAt, lineAt, firstAt, countAt, codeOf, piecesFrom, narrow, spareMask, rowOf}
 use Rattle.tables.specs.Laws.Lines.{few-line-octets, few-pieces, few-fx, narrow-line, line-filled, pieces-right}
 use Rattle.tables.specs.Laws.Mask.{spare-test}
-use Rattle.lines.specs.Steps.{stepOf, afterOf, run, lineRun}
-use Rattle.lines.specs.Numbers.{numsAt, nums-at, length-nums-at}
-use Rattle.lines.specs.declared.Step.the-variants.{Next, Refused}
+use Rattle.reader.specs.Steps.{stepOf, afterOf, run, lineRun}
+use Rattle.reader.specs.Numbers.{numsAt, nums-at, length-nums-at}
+use Rattle.reader.specs.declared.lines.Step.the-variants.{Next, Refused}
 
 -- the octets of a line as a number n below 2 ^ (8 k): the digits above FX
 module _ (l : Line) (good : T (fills l)) (n : ℕ) (lt : n < 2 ^ (8 * l .octets)) where

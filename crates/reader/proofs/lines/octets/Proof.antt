@@ -1,4 +1,4 @@
--- `lines::octets` meets its contract. The loop has the number of the octets passed.
+-- `reader::lines::octets` meets its contract. The loop has the number of the octets passed.
 -- Assumes nothing.
 use mathlib.Core.Path.{_≡_, refl, sym, ap, ap₂, _∙_, subst}
 use mathlib.Core.List.{List}
@@ -14,8 +14,8 @@ use lib.Pow.{pow-mono, pow-add}
 use mir.Facts.{fits-of-lt}
 use Rattle.codec.specs.Radix.{join, eights}
 use Rattle.codec.specs.Laws.Radix.{join-take}
-use Rattle.lines.proofs.octets.Statement.{statement}
-use Rattle.lines.proofs.octets.Tie as tie
+use Rattle.reader.proofs.lines.octets.Statement.{statement}
+use Rattle.reader.proofs.lines.octets.Tie as tie
 
 -- at most five octets so far: less than 2 ^ 40
 under5 : (n i : ℕ) → i ≤ 5 → n < 2 ^ (8 * i) → n < 2 ^ 40

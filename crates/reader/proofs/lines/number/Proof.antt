@@ -1,4 +1,4 @@
--- `lines::number` meets its contract, by the kind. Assumes nothing.
+-- `reader::lines::number` meets its contract, by the kind. Assumes nothing.
 use mathlib.Core.Path.{_≡_, sym, ap, _∙_, subst}
 use Prim.Native.Nat.{ℕ, _^_, _≤_, _<_}
 use native.Mathlib.Nat.{lt-of-lt-of-le}
@@ -8,9 +8,9 @@ use lib.Pow.{pow-mono}
 use mir.Syntax.{w32}
 use mir.Facts.{toZ-ofZ, toZ-pos}
 use Rattle.codec.specs.Signed.{toSigned}
-use Rattle.lines.specs.Numbers.{plain-is, signed-is}
-use Rattle.lines.proofs.number.Statement.{statement}
-use Rattle.lines.proofs.number.Tie as tie
+use Rattle.reader.specs.Numbers.{plain-is, signed-is}
+use Rattle.reader.proofs.lines.number.Statement.{statement}
+use Rattle.reader.proofs.lines.number.Tie as tie
 
 -- at most 24 bits
 full-le : (w : ℕ) → w ≤ 24 → 2 ^ w ≤ 2 ^ 24

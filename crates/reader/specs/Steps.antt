@@ -7,8 +7,8 @@ use lib.Seq.{sets}
 use Rattle.codec.specs.Codec.{Res, got, bad, shift, Codec}
 use Rattle.codec.specs.Line.{Held, line}
 use Rattle.tables.specs.Lines.{lineAt}
-use Rattle.lines.specs.declared.Step.{Step}
-use Rattle.lines.specs.declared.Step.the-variants.{Next, Refused}
+use Rattle.reader.specs.declared.lines.Step.{Step}
+use Rattle.reader.specs.declared.lines.Step.the-variants.{Next, Refused}
 
 -- a count, which is FX or the parts of a chain, and the next place; or the refusal
 abbrev pub stepOf : Res Held → Step

@@ -1,4 +1,4 @@
--- `lines::signed` meets its contract: the lower half stands for itself, the upper for d - full. Assumes nothing.
+-- `reader::lines::signed` meets its contract: the lower half stands for itself, the upper for d - full. Assumes nothing.
 use mathlib.Core.Path.{_≡_, sym, ap₂, _∙_, subst}
 use Prim.Native.Nat.{ℕ, suc, _+_, _-_, _^_, _≤_, _<_}
 use native.Mathlib.Omega.{arith}
@@ -8,8 +8,8 @@ use mir.Syntax.{w32}
 use mir.Val.{toZ, SFits}
 use mir.Facts.{toZ-ofZ, toZ-pos}
 use Rattle.codec.specs.Laws.Signed.{minus, signed-low, signed-high}
-use Rattle.lines.proofs.signed.Statement.{statement}
-use Rattle.lines.proofs.signed.Tie as tie
+use Rattle.reader.proofs.lines.signed.Statement.{statement}
+use Rattle.reader.proofs.lines.signed.Tie as tie
 
 -- the difference, as 32 bits read it
 difference : (d full : ℕ) → d < full → full ≤ 2 ^ 24 → toZ w32 d -ℤ toZ w32 full ≡ negsuc (full - suc d)

@@ -1,4 +1,4 @@
--- `lines::power` meets its contract: the shift loses nothing. Assumes nothing.
+-- `reader::lines::power` meets its contract: the shift loses nothing. Assumes nothing.
 use mathlib.Core.Path.{_∙_}
 use native.Mathlib.Nat.{mod-eq-of-lt, one-mul}
 use native.Mathlib.Omega.{arith}
@@ -6,8 +6,8 @@ use borrow.Author.Needs.{needs}
 use Prim.Native.Nat.{ℕ, _*_, _^_, _<_}
 use native.Mathlib.Nat.{lt-of-le-of-lt}
 use lib.Pow.{pow-mono}
-use Rattle.lines.proofs.power.Statement.{statement}
-use Rattle.lines.proofs.power.Tie as tie
+use Rattle.reader.proofs.lines.power.Statement.{statement}
+use Rattle.reader.proofs.lines.power.Tie as tie
 
 under : (w : ℕ) → w < 32 → 1 * 2 ^ w < 2 ^ 64
 under w h = rw (one-mul (2 ^ w)) (lt-of-le-of-lt (pow-mono {i = w} {j = 32} (omega arith)) (omega arith))

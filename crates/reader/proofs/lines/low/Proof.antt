@@ -1,11 +1,11 @@
--- `lines::low` meets its contract. Assumes nothing.
+-- `reader::lines::low` meets its contract. Assumes nothing.
 use mathlib.Core.Path.{_≡_, sym, ap, subst}
 use Prim.Native.Nat.{ℕ, _^_, _%_, _<_}
 use native.Mathlib.Omega.{arith}
 use borrow.Author.Needs.{needs}
 use lib.Pow.{pow-pos}
-use Rattle.lines.proofs.low.Statement.{statement}
-use Rattle.lines.proofs.low.Tie as tie
+use Rattle.reader.proofs.lines.low.Statement.{statement}
+use Rattle.reader.proofs.lines.low.Tie as tie
 
 power-requires : tie.Need-power-requires
 power-requires c κs = search needs

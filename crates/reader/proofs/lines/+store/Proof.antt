@@ -1,4 +1,4 @@
--- `lines::store` meets its contract: one law at each way out. Assumes nothing.
+-- `reader::lines::store` meets its contract: one law at each way out. Assumes nothing.
 use mathlib.Core.Path.{_≡_, refl, sym, ap, _∙_, subst}
 use Prim.Native.Nat.{ℕ, suc, _+_, _-_, _^_, _/_, _%_, _≤_, _<_}
 use native.Mathlib.Nat.{mod-lt}
@@ -12,19 +12,19 @@ use mir.Syntax.{w32}
 use mir.Facts.{toZ-ofZ, fits-of-lt}
 use Rattle.codec.specs.Line.{toNum}
 use Rattle.tables.specs.Lines.{kindOf, piecesFrom}
-use Rattle.lines.specs.Numbers.{numsAt, more-spare, more-num, store-none, spare-room, spare-narrow, store-spare, num-room, num-narrow, store-stop, store-on}
+use Rattle.reader.specs.Numbers.{numsAt, more-spare, more-num, store-none, spare-room, spare-narrow, store-spare, num-room, num-narrow, store-stop, store-on}
 use borrow.Fn.Kinds.{In}
 use borrow.Fn.PlainCycle.{Measures, is, falls, and}
-use Rattle.lines.proofs.store.Reads as store
-use Rattle.lines.proofs.store.Kinds as store-kinds
-use Rattle.lines.proofs.+store.Lts-store as store-lts
-use Rattle.lines.proofs.fits.Reads as fits-reads
-use Rattle.lines.proofs.less.Reads as less-reads
-use Rattle.lines.proofs.low.Reads as low-reads
-use Rattle.lines.proofs.number.Reads as number-reads
-use Rattle.lines.proofs.put.Reads as put-reads
-use Rattle.lines.proofs.+store.{statement}
-use Rattle.lines.proofs.+store.Tie.{close}
+use Rattle.reader.proofs.lines.store.Reads as store
+use Rattle.reader.proofs.lines.store.Kinds as store-kinds
+use Rattle.reader.proofs.lines.+store.Lts-store as store-lts
+use Rattle.reader.proofs.lines.fits.Reads as fits-reads
+use Rattle.reader.proofs.lines.less.Reads as less-reads
+use Rattle.reader.proofs.lines.low.Reads as low-reads
+use Rattle.reader.proofs.lines.number.Reads as number-reads
+use Rattle.reader.proofs.lines.put.Reads as put-reads
+use Rattle.reader.proofs.lines.+store.{statement}
+use Rattle.reader.proofs.lines.+store.Tie.{close}
 
 abbrev μ-store : Measures 1 store-kinds.ps ℕ
 μ-store κs a = a .1 .1 .1 .1 .0

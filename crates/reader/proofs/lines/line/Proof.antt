@@ -1,4 +1,4 @@
--- `lines::line` meets its contract: one law at each way out. Assumes nothing.
+-- `reader::lines::line` meets its contract: one law at each way out. Assumes nothing.
 use Prim.Native.Nat.{ℕ, _+_, _*_, _^_, _%_, _≤_, _<_}
 use mathlib.Core.Path.{_≡_, sym, ap, _∙_, subst}
 use native.Mathlib.Nat.{lt-of-lt-of-le, mod-lt}
@@ -7,9 +7,9 @@ use borrow.Author.Needs.{needs}
 use denote.Ref.{now}
 use lib.Pow.{pow-pos, pow-mono}
 use mir.Facts.{fits-of-lt}
-use Rattle.lines.specs.Lines.{row-few, row-runs, row-narrow, row-fx-few, row-first, row-room, line-5, line-6, line-8, line-got}
-use Rattle.lines.proofs.line.Statement.{statement}
-use Rattle.lines.proofs.line.Tie as tie
+use Rattle.reader.specs.Lines.{row-few, row-runs, row-narrow, row-fx-few, row-first, row-room, line-5, line-6, line-8, line-got}
+use Rattle.reader.proofs.lines.line.Statement.{statement}
+use Rattle.reader.proofs.lines.line.Tie as tie
 
 row-of-requires : tie.Need-row-of-requires
 row-of-requires c κs = search needs

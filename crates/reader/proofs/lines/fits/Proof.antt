@@ -1,11 +1,11 @@
--- `lines::fits` meets its contract, by the kind. Assumes nothing.
+-- `reader::lines::fits` meets its contract, by the kind. Assumes nothing.
 use mathlib.Core.Path.{_∙_}
 use native.Mathlib.Omega.{arith}
 use borrow.Author.Needs.{needs}
 use mir.Facts.{toZ-ofZ}
-use Rattle.lines.specs.Numbers.{limit-none, limit-lat, limit-ga}
-use Rattle.lines.proofs.fits.Statement.{statement}
-use Rattle.lines.proofs.fits.Tie as tie
+use Rattle.reader.specs.Numbers.{limit-none, limit-lat, limit-ga}
+use Rattle.reader.proofs.lines.fits.Statement.{statement}
+use Rattle.reader.proofs.lines.fits.Tie as tie
 
 returns : tie.Need-returns
 returns c = let a = c .before .args in limit-none (a .kind) (a .z) (c .if1 .taken)

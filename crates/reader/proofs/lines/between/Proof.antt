@@ -1,7 +1,7 @@
--- `lines::between` meets its contract. Assumes nothing.
+-- `reader::lines::between` meets its contract. Assumes nothing.
 use mir.Facts.{toZ-ofZ}
-use Rattle.lines.proofs.between.Statement.{statement}
-use Rattle.lines.proofs.between.Tie as tie
+use Rattle.reader.proofs.lines.between.Statement.{statement}
+use Rattle.reader.proofs.lines.between.Tie as tie
 
 returns : tie.Need-returns
 returns c =
