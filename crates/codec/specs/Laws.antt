@@ -2,10 +2,12 @@
 pub mod Tests
 pub mod Signed
 pub mod Radix
+pub mod Sets
 pub mod Codec
 pub mod Line
 pub mod Item
 pub mod Field
+pub mod Flags
 pub mod Frame
 pub mod View
 pub mod Longest

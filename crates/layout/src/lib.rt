@@ -1,6 +1,9 @@
 // The papers as data (specs/), the record, the answers, the categories.
 // Promises: a category's three numbers are what its paper's data say. Stands on codec.
 ghost use mathlib.Core.Path.{_≡_};
+ghost use lib.Dec.{eqb};
+ghost use lib.ListN.{getD};
+ghost use Rattle.codec.specs.Field.{flags};
 ghost use Rattle.layout.specs.Papers.{known, itemsOf, longestOf};
 
 // What a field reads to. `items` is laid out as the indicator, `parts` has the parts of each item's chain, `numbers` every
@@ -103,4 +106,14 @@ pub fn longest_of(cat: u8) -> usize
         Cat007::NUMBER => Cat007::LONGEST,
         _ => 2,
     }
+}
+
+// Whether an indicator has the item with index i, the first item's bit being the highest.
+pub fn present(items: u8, i: usize) -> bool
+    ensures { λ r. ⌜ r ≡ eqb (getD (flags items) i 0) 1 ⌝ }
+{
+    if i < 8 {
+        return (items >> ((7 - i) as u8)) % 2 == 1;
+    }
+    false
 }

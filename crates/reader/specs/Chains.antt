@@ -1,38 +1,30 @@
 -- The ways out of the walk over a chain's parts.
-use mathlib.Core.Path.{_≡_, refl, sym, ap, ap₂, _∙_, subst}
-use mathlib.Core.Bool.{Bool, true, false, _&&_}
-use mathlib.Core.List.{List, [], _∷_, _++_}
+use mathlib.Core.Path.{_≡_, refl, sym, ap, _∙_, subst}
+use mathlib.Core.Bool.{_&&_}
+use mathlib.Core.List.{List, _∷_, _++_}
 use Prim.Native.Nat.{ℕ, zero, suc, _+_, _-_, _^_, _≤_, _<_}
 use native.Mathlib.Omega.{arith}
-use borrow.Author.Tests.{eq-eqb, ne-eqb}
+use borrow.Author.Tests.{ne-eqb}
 use lib.Dec.{T, eqb, eqb→eq}
 use lib.IntN.{ℤ, pos}
 use lib.ListN.{length, drop, replicate}
 use lib.Seq.{sets}
-use Rattle.codec.specs.Codec.{Res, got, bad, mapRes, check, shift, Codec, opt}
-use Rattle.codec.specs.Line.{Line, Held, count, line}
+use Rattle.codec.specs.Codec.{Res, got, bad, mapRes, check, shift, opt}
+use Rattle.codec.specs.Line.{Held, line}
 use Rattle.codec.specs.Item.{slotsOf, nothing, beside, chain}
 use Rattle.codec.specs.Laws.Tests.{and-l, and-r, not-one}
 use Rattle.codec.specs.Laws.Long.{LongBy, many, long-shift, long-line, Under, under-line, under-shift}
 use Rattle.tables.specs.Lines.{lineAt, firstAt, countAt}
-use Rattle.reader.specs.Steps.{stepOf, afterOf, run, lineRun}
+use Rattle.codec.specs.Laws.Sets.{sets-append}
+use Rattle.tables.specs.Shapes.{linesFrom, partsOk}
+use Rattle.reader.specs.Steps.{run, lineRun}
 use Rattle.reader.specs.declared.lines.Step.{Step}
 use Rattle.reader.specs.declared.lines.Step.the-variants.{Next, Refused}
-use Rattle.reader.specs.Walk.{Stands, stands-bad, stands-got, stands-behind, stood, fell, behind, Ready, ready-after, sets-append, sets-zeros, map-map, run-map, beside-bad, beside-got}
-
--- n lines from line b on
-unfoldable pub linesFrom : ℕ → ℕ → List Line
-linesFrom b zero = []
-linesFrom b (suc n) = lineAt b ∷ linesFrom (b + 1) n
+use Rattle.reader.specs.Walk.{Stands, stands-bad, stands-got, stands-behind, stood, fell, behind, Ready, ready-after, sets-zeros, map-map, run-map, beside-bad, beside-got}
 
 -- the chain whose first part is line b, with left further parts, after done others
 unfoldable pub chainRun : ℕ → ℕ → ℕ → List ℕ → ℕ → Res Held
 chainRun done b left xs at = mapRes (λ (v : Held). (done + v .0, v .1)) (run ((chain (lineAt b) (linesFrom (b + 1) left)) .read) xs at)
-
--- line b and the left ones behind it are parts, and the slots of each begin where those of the one before end
-unfoldable pub partsOk : ℕ → ℕ → Bool
-partsOk b zero = eqb (lineAt b .fx) 1
-partsOk b (suc left) = eqb (lineAt b .fx) 1 && (eqb (firstAt (b + 1)) (firstAt b + countAt b) && partsOk (b + 1) left)
 
 -- where the slots of the chain end
 unfoldable pub chainRoom : ℕ → ℕ → ℕ → ℕ

@@ -1,85 +1,37 @@
 -- The whole field: what the code of the reader answers is what 01 defines.
 use mathlib.Core.Path.{_≡_, refl, sym, ap, ap₂, _∙_, subst, subst₂}
-use mathlib.Core.Bool.{Bool, true, false, _&&_}
-use mathlib.Core.List.{List, [], _∷_, _++_, append-nil}
+use mathlib.Core.Bool.{Bool, true, false}
+use mathlib.Core.List.{List, [], _∷_}
 use Prim.Native.Nat.{ℕ, zero, suc, _+_, _-_, _≤_, _<_}
 use native.Mathlib.Omega.{arith}
 use borrow.Author.Tests.{ltb-true, ltb-false, lt-ltb, le-ltb, eq-eqb, ne-eqb, eqb-true, eqb-false}
-use lib.Dec.{T, ltb, leb, eqb}
-use lib.IntN.{ℤ, pos}
-use lib.ListN.{length, getD, take, drop, set, replicate, length-append, length-replicate}
+use lib.Dec.{T, ltb, eqb}
+use lib.IntN.{ℤ}
+use lib.ListN.{length, getD, take, drop}
 use lib.Seq.{sets, length-take-le}
 use Rattle.codec.specs.Pick.{pick}
-use Rattle.codec.specs.Codec.{Octets, Res, got, bad, mapRes, shift, andThen, Codec, Lawful, opt, pairUp}
-use Rattle.codec.specs.Line.{Line, Held, count}
-use Rattle.codec.specs.Item.{Item, slotsOf, slots, linesOf, nothing, item}
-use Rattle.codec.specs.Field.{firstFlag, nextFlags, place, row, flags, allZero, noSpare, indicator, Contents, body, texts, textsOf}
+use Rattle.codec.specs.Codec.{Res, got, bad, mapRes, shift, andThen, pairUp}
+use Rattle.codec.specs.Line.{Held}
+use Rattle.codec.specs.Item.{nothing}
+use Rattle.codec.specs.Field.{firstFlag, nextFlags, place, row, flags, allZero, indicator, Contents, body}
 use Rattle.codec.specs.Frame.{Outcome, accepted, refused, lenOf, settle, readFrame}
 use Rattle.codec.specs.Laws.Codec.{number-one}
-use Rattle.codec.specs.Laws.Long.{LongBy, many}
 use Rattle.codec.specs.Laws.Frame.{mapOutcome, frame-empty, frame-small, frame-short, frame-whole}
-use Rattle.layout.specs.Cat048.{cat048}
-use Rattle.layout.specs.Cat021.{cat021}
-use Rattle.layout.specs.Cat007.{cat007}
 use Rattle.layout.specs.declared.Answer.{Answer}
 use Rattle.layout.specs.declared.Answer.the-variants.{Accepted, Refused}
 use Rattle.layout.specs.Papers.{known, paperOf, itemsOf}
-use Rattle.layout.specs.Record.{allParts, allNumbers, allSlots}
-use Rattle.layout.specs.Laws.Papers.{few-items, paper-048, paper-021, paper-007}
-use Rattle.tables.specs.Lines.{items, itemAt, spotsFrom, spots, spotAt, spotOf}
+use Rattle.layout.specs.Record.{allParts, allNumbers}
+use Rattle.layout.specs.Laws.Papers.{few-items}
+use Rattle.tables.specs.Lines.{items, spotAt, spotOf}
+use Rattle.tables.specs.Shapes.{itemOn, rowOk, itemsFrom}
+use Rattle.tables.specs.Laws.Spots.{Spots, spots-right}
 use Rattle.reader.specs.Steps.{run}
 use Rattle.reader.specs.declared.lines.Step.{Step}
 use Rattle.reader.specs.declared.lines.Step.the-variants.{Next}
 use Rattle.reader.specs.declared.lines.Step.the-variants as steps
 use Rattle.scope.specs.Reading.{fieldOf}
-use Rattle.reader.specs.Walk.{run-map, run-then, thenAt, map-map}
-use Rattle.reader.specs.Rows.{itemOn, spotOk, rowOk, placeRun, Found, found, goOn, rowFrom, rowStep, RowStands, place-many}
-
--- ---- the tables' items are the paper's
-
-unfoldable pub itemsFrom : ℕ → ℕ → List Item
-itemsFrom k zero = []
-itemsFrom k (suc n) = itemOn k ∷ itemsFrom (k + 1) n
-
--- what holds of the spots of a category: its items, slots that begin at 0 and follow each other
-pub record Spots (cat : ℕ) : Type 0 where
-  pub items-are : itemsFrom (spotOf cat) (itemsOf cat) ≡ paperOf cat
-  pub row-is : T (rowOk (spotOf cat) (itemsOf cat))
-  pub begins : spotAt (spotOf cat) .1 ≡ 0
-  pub few : spotOf cat < 100
-
-spots-of : (cat : ℕ) (its : List Item) (k : ℕ) → paperOf cat ≡ its → spotOf cat ≡ k → itemsFrom k (length its) ≡ its → T (rowOk k (length its)) → spotAt k .1 ≡ 0 → k < 100 → Spots cat
-spots-of cat its k ep ek ei r z h = record {
-  items-are = ap₂ (λ x y. itemsFrom x (length y)) ek ep ∙ ei ∙ sym ep;
-  row-is = subst (λ x. T (rowOk (spotOf cat) (length x))) (sym ep) (subst (λ x. T (rowOk x (length its))) (sym ek) r);
-  begins = ap (λ x. spotAt x .1) ek ∙ z;
-  few = subst (_< 100) (sym ek) h;
-}
-
-spots-048 : (cat : ℕ) → cat ≡ 48 → Spots cat
-unfolding itemsFrom rowOk spotOk spotOf spotAt spots spotsFrom itemAt items slots slotsOf count cat048 cat021 cat007
-spots-048 cat e = spots-of cat cat048 0 (paper-048 cat e .0) (rw e refl) refl tt refl (omega arith)
-
-spots-021 : (cat : ℕ) → cat ≡ 21 → Spots cat
-unfolding itemsFrom rowOk spotOk spotOf spotAt spots spotsFrom itemAt items slots slotsOf count cat048 cat021 cat007
-spots-021 cat e = spots-of cat cat021 5 (paper-021 cat e .0) (rw e refl) refl tt refl (omega arith)
-
-spots-007 : (cat : ℕ) → cat ≡ 7 → Spots cat
-unfolding itemsFrom rowOk spotOk spotOf spotAt spots spotsFrom itemAt items slots slotsOf count cat048 cat021 cat007
-spots-007 cat e = spots-of cat cat007 13 (paper-007 cat e .0) (rw e refl) refl tt refl (omega arith)
-
-pub spots-right : (cat : ℕ) → known cat ≡ true → Spots cat
-unfolding known
-spots-right cat h = go (eqb cat 48) refl (eqb cat 21) refl (eqb cat 7) refl
-  where
-    go : (x : Bool) → eqb cat 48 ≡ x → (y : Bool) → eqb cat 21 ≡ y → (z : Bool) → eqb cat 7 ≡ z → Spots cat
-    go true ex y ey z ez = spots-048 cat (eqb-true cat 48 ex)
-    go false ex true ey z ez = spots-021 cat (eqb-true cat 21 ey)
-    go false ex false ey true ez = spots-007 cat (eqb-true cat 7 ez)
-    go false ex false ey false ez =
-        let f : pick (eqb cat 48) true (pick (eqb cat 21) true (eqb cat 7)) ≡ false = rw (ex, ey, ez) refl in
-        let w : true ≡ false = sym h ∙ f in
-        let q : _≡_ {A = ℕ} 0 1 = cc in absurd (omega arith)
+use Rattle.reader.specs.Walk.{run-map, run-then, thenAt}
+use Rattle.reader.specs.Rows.{placeRun, Found, found, goOn, rowFrom, rowStep, RowStands}
 
 -- ---- the row of the tables is the row of the codec
 

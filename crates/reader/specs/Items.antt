@@ -1,6 +1,6 @@
 -- Subfields and items: each subfield is read behind what was read before it.
 use mathlib.Core.Path.{_≡_, refl, sym, ap, ap₂, _∙_, subst}
-use mathlib.Core.Bool.{Bool, true, false, _&&_}
+use mathlib.Core.Bool.{Bool, true, false}
 use mathlib.Core.List.{List, [], _∷_, _++_, append-assoc, append-nil}
 use Prim.Native.Nat.{ℕ, zero, suc, _+_, _-_, _≤_, _<_}
 use native.Mathlib.Omega.{arith}
@@ -9,19 +9,21 @@ use borrow.Author.Tests.{le-leb, lt-leb, ne-eqb}
 use lib.IntN.{ℤ, pos, negsuc}
 use lib.ListN.{length, getD, replicate, drop, length-append, List·getD-append}
 use lib.Seq.{sets}
-use Rattle.codec.specs.Codec.{Res, got, bad, mapRes, shift, Codec, opt}
+use Rattle.codec.specs.Codec.{Res, got, bad, mapRes, opt}
 use Rattle.codec.specs.Line.{Line, Held, count, line}
-use Rattle.codec.specs.Item.{Item, chained, single, slotsOf, nothing, beside, chain, isOne, flagged, subfields, item}
+use Rattle.codec.specs.Item.{chained, slotsOf, nothing, beside, chain, isOne, flagged, subfields, item}
 use Rattle.codec.specs.Laws.Tests.{and-l, and-r}
 use Rattle.codec.specs.Laws.Long.{LongBy, many, long-shift, long-line, long-opt, long-chain}
 use Rattle.tables.specs.Lines.{lineAt, firstAt, countAt, itemAt}
 use Rattle.tables.specs.Laws.Lines.{past-lines, past-item}
+use Rattle.tables.specs.Shapes.{linesFrom, flagsUnder, itemOf}
+use Rattle.codec.specs.Laws.Sets.{sets-append}
 use Rattle.reader.specs.Steps.{stepOf, afterOf, run, lineRun}
 use Rattle.reader.specs.Numbers.{inside}
 use Rattle.reader.specs.declared.lines.Step.{Step}
 use Rattle.reader.specs.declared.lines.Step.the-variants.{Next, Refused}
-use Rattle.reader.specs.Chains.{linesFrom, chainRun, chain-whole}
-use Rattle.reader.specs.Walk.{Stands, stands, stands-bad, stands-got, stands-same, stood, fell, stepped, stopped, Ready, ready-after, sets-append, sets-zeros, getD-sets-at, map-map, run-map, beside-bad, beside-got}
+use Rattle.reader.specs.Chains.{chainRun, chain-whole}
+use Rattle.reader.specs.Walk.{Stands, stands, stands-bad, stands-got, stands-same, stood, fell, Ready, ready-after, sets-zeros, getD-sets-at, run-map, beside-bad, beside-got}
 
 -- what was read before, with the numbers of what is read behind it
 abbrev pub extend : Held → Res Held → Res Held
@@ -35,11 +37,6 @@ more l xs (bad e p) = bad e p
 unfoldable pub moreAll : List Line → List ℕ → Res Held → Res Held
 moreAll [] xs x = x
 moreAll (l ∷ ls) xs x = moreAll ls xs (more l xs x)
-
--- every flag is among the first k numbers
-unfoldable pub flagsUnder : ℕ → List Line → Bool
-flagsUnder k [] = true
-flagsUnder k (l ∷ ls) = ltb (l .flag) k && flagsUnder k ls
 
 -- ---- the codec of subfields reads so
 
@@ -197,11 +194,6 @@ module _ (b : ℕ) (xs : List ℕ) (base : ℕ) (l : List ℤ) (ready : Ready l 
         }
 
 -- ---- the items of the papers
-
--- the chain that begins at line b, with left further parts, and the n subfields behind it
-unfoldable pub itemOf : ℕ → ℕ → ℕ → Item
-unfolding linesFrom
-itemOf b left n = chained (lineAt b) (linesFrom (b + 1) left) (linesFrom (b + 1 + left) n)
 
 unfoldable pub itemRun : ℕ → List ℕ → ℕ → Res Held
 itemRun k xs at = run ((item (itemAt k)) .read) xs at

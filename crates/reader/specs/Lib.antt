@@ -5,7 +5,6 @@ pub mod Lines
 pub mod Walk
 pub mod Chains
 pub mod Items
-pub mod Flags
 pub mod Rows
 pub mod Fields
 pub mod Whole

@@ -1,8 +1,8 @@
 -- The ways out of `line`: the row of a line gives what its codec reads.
 use mathlib.Core.Path.{_≡_, refl, sym, ap, ap₂, _∙_, subst}
-use mathlib.Core.Bool.{Bool, true, false, _&&_}
-use mathlib.Core.List.{List, [], _∷_}
-use Prim.Native.Nat.{ℕ, zero, suc, _+_, _-_, _*_, _^_, _/_, _%_, _≤_, _<_}
+use mathlib.Core.Bool.{Bool, true, false}
+use mathlib.Core.List.{List}
+use Prim.Native.Nat.{ℕ, _+_, _-_, _*_, _^_, _/_, _%_, _≤_, _<_}
 use native.Mathlib.Nat.{mod-eq-of-lt}
 use native.Mathlib.Omega.{arith}
 use borrow.Author.Tests.{eq-eqb, ne-eqb}
@@ -15,14 +15,15 @@ use lib.Pow.{shr-lt}
 use Rattle.codec.specs.Pick.{pick}
 use Rattle.codec.specs.Radix.{total, cut, join, eights}
 use Rattle.codec.specs.Codec.{got, bad}
-use Rattle.codec.specs.Line.{Piece, Line, widths, count, clear, nums, inLimits, line, fills}
+use Rattle.codec.specs.Line.{Line, widths, count, clear, nums, inLimits, line, fills}
 use Rattle.codec.specs.Laws.Radix.{total-eights}
 use Rattle.codec.specs.Laws.Line.{wholeOf, digitsOf, line-short, line-spare, line-limit, line-there}
 use Rattle.tables.specs.declared.Row.{Row}
-use Rattle.tables.specs.Lines.{placedAt, lineAt, firstAt, countAt, codeOf, piecesFrom, narrow, spareMask, rowOf}
-use Rattle.tables.specs.Laws.Lines.{few-line-octets, few-pieces, few-fx, narrow-line, line-filled, pieces-right}
+use Rattle.tables.specs.Lines.{placedAt, lineAt, firstAt, countAt, piecesFrom, spareMask, rowOf}
+use Rattle.tables.specs.Laws.Lines.{line-filled}
 use Rattle.tables.specs.Laws.Mask.{spare-test}
-use Rattle.reader.specs.Steps.{stepOf, afterOf, run, lineRun}
+use Rattle.tables.specs.Laws.Rows.{row-octets, row-pieces, row-fx, row-first}
+use Rattle.reader.specs.Steps.{stepOf, afterOf, lineRun}
 use Rattle.reader.specs.Numbers.{numsAt, nums-at, length-nums-at}
 use Rattle.reader.specs.declared.lines.Step.the-variants.{Next, Refused}
 
@@ -41,38 +42,12 @@ module _ (l : Line) (good : T (fills l)) (n : ℕ) (lt : n < 2 ^ (8 * l .octets)
   pub nums-are : numsAt (l .pieces) n (8 * l .octets) ≡ nums (l .pieces) (cut (widths (l .pieces)) (n / 2 ^ l .fx))
   nums-are = ap (numsAt (l .pieces) n) bits-are ∙ nums-at (l .pieces) n (l .fx) ∙ ap (λ m. nums (l .pieces) (cut (widths (l .pieces)) m)) (mod-eq-of-lt above-lt)
 
--- ---- what a row tells of its line
-
-module _ (b : ℕ) {r : Row} (er : r ≡ rowOf (placedAt b)) where
-  pub row-octets : r .0 ≡ lineAt b .octets
-  row-octets = ap (λ (x : Row). x .0) er
-
-  pub row-few : r .0 ≤ 6
-  row-few = subst (_≤ 6) (sym row-octets) (few-line-octets b)
-
-  pub row-pieces : piecesFrom (r .3) (r .2) ≡ lineAt b .pieces
-  row-pieces = ap (λ (x : Row). piecesFrom (x .3) (x .2)) er ∙ pieces-right b
-
-  pub row-runs : r .3 ≤ 8
-  row-runs = subst (_≤ 8) (sym (ap (λ (x : Row). x .3) er)) (few-pieces b)
-
-  pub row-narrow : T (narrow (piecesFrom (r .3) (r .2)))
-  row-narrow = subst (λ ps. T (narrow ps)) (sym row-pieces) (narrow-line b)
-
-  pub row-fx : r .4 ≡ lineAt b .fx
-  row-fx = ap (λ (x : Row). x .4) er
-
-  pub row-fx-few : r .4 ≤ 1
-  row-fx-few = subst (_≤ 1) (sym row-fx) (few-fx b)
-
-  pub row-first : r .5 ≡ firstAt b
-  row-first = ap (λ (x : Row). x .5) er
-
-  pub row-room : (n base : ℕ) → base + (firstAt b + countAt b) ≤ 77 → base + r .5 + length (numsAt (piecesFrom (r .3) (r .2)) n (8 * r .0)) ≤ 77
-  row-room n base h =
-      let e : length (numsAt (piecesFrom (r .3) (r .2)) n (8 * r .0)) ≡ countAt b = length-nums-at (piecesFrom (r .3) (r .2)) n (8 * r .0) ∙ ap count row-pieces in
-      let f : r .5 ≡ firstAt b = row-first in
-      omega arith
+-- its numbers have slots in the record
+pub row-room : (b : ℕ) {r : Row} (er : r ≡ rowOf (placedAt b)) (n base : ℕ) → base + (firstAt b + countAt b) ≤ 77 → base + r .5 + length (numsAt (piecesFrom (r .3) (r .2)) n (8 * r .0)) ≤ 77
+row-room b {r} er n base h =
+    let e : length (numsAt (piecesFrom (r .3) (r .2)) n (8 * r .0)) ≡ countAt b = length-nums-at (piecesFrom (r .3) (r .2)) n (8 * r .0) ∙ ap count (row-pieces b er) in
+    let f : r .5 ≡ firstAt b = row-first b er in
+    omega arith
 
 -- ---- the ways out of `line`, by its row and the tests that the code makes
 

@@ -2,23 +2,21 @@
 use mathlib.Core.Path.{_≡_, refl, sym, ap, ap₂, _∙_, subst}
 use mathlib.Core.Bool.{Bool, true, false, _&&_}
 use mathlib.Core.List.{List, [], _∷_}
-use Prim.Native.Nat.{ℕ, zero, suc, _+_, _-_, _*_, _^_, _/_, _%_, _≤_, _<_}
-use native.Mathlib.Nat.{mod-lt, mod-eq-of-lt}
+use Prim.Native.Nat.{ℕ, zero, suc, _+_, _-_, _^_, _/_, _%_, _≤_, _<_}
 use native.Mathlib.Omega.{arith}
 use native.Mathlib.Numerals.{add-one}
-use lib.Dec.{T, leb, eqb, leb→le}
+use lib.Dec.{T, leb, leb→le}
 use lib.IntN.{ℤ, pos, negsuc}
 use lib.ListN.{length, set}
 use lib.Seq.{sets}
 use lib.Signed.{leZ}
-use lib.Pow.{shr-shr, field, mod-mod-pow, pow-pos}
-use borrow.Author.Tests.{eq-eqb, ne-eqb}
+use lib.Pow.{shr-shr, field, mod-mod-pow}
 use Rattle.codec.specs.Pick.{pick}
 use Rattle.codec.specs.Signed.{toSigned}
 use Rattle.codec.specs.Radix.{total, cut}
-use Rattle.codec.specs.Line.{Kind, plain, signed, limited, Piece, spare, num, toNum, limit, widths, count, nums, inLimits}
+use Rattle.codec.specs.Line.{Kind, limited, Piece, spare, num, toNum, limit, widths, count, nums, inLimits}
 use Rattle.codec.specs.Laws.Tests.{and-l, and-r}
-use Rattle.tables.specs.Lines.{kindOf, pieceOf, piecesFrom, narrow}
+use Rattle.tables.specs.Lines.{kindOf, piecesFrom, narrow}
 
 -- the pieces whose highest bit is below bit shift of n
 unfoldable pub numsAt : List Piece → ℕ → ℕ → List ℤ
@@ -87,23 +85,6 @@ limit-ga (suc (suc (suc zero))) z h x = absurd (x refl)
 limit-ga (suc (suc (suc (suc k)))) z h x = refl
 
 -- ---- the ways out of `store`, p is the lowest octet of the code
-
-module _ (code left : ℕ) (h : left ≡ 0 → ⊥) where
-  more : piecesFrom left code ≡ pieceOf (code % 256) ∷ piecesFrom (left - 1) (code / 256)
-  unfolding piecesFrom
-  more = go left h
-    where
-      go : (left : ℕ) → (left ≡ 0 → ⊥) → piecesFrom left code ≡ pieceOf (code % 256) ∷ piecesFrom (left - 1) (code / 256)
-      go zero h = absurd (h refl)
-      go (suc m) h = let e : suc m - 1 ≡ m = omega arith in rw e
-
-  pub more-spare : code % 256 / 32 ≡ 0 → piecesFrom left code ≡ spare (code % 256 % 32) ∷ piecesFrom (left - 1) (code / 256)
-  unfolding pieceOf
-  more-spare e = more ∙ ap (_∷ piecesFrom (left - 1) (code / 256)) (rw (eq-eqb (code % 256 / 32) 0 e) refl)
-
-  pub more-num : (code % 256 / 32 ≡ 0 → ⊥) → piecesFrom left code ≡ num (kindOf (code % 256 / 32)) (code % 256 % 32) ∷ piecesFrom (left - 1) (code / 256)
-  unfolding pieceOf
-  more-num e = more ∙ ap (_∷ piecesFrom (left - 1) (code / 256)) (rw (ne-eqb (code % 256 / 32) 0 e) refl)
 
 pub store-none : (l : List ℤ) (n shift code left slot : ℕ) → left ≡ 0
     → (true ≡ inLimits (piecesFrom left code) (numsAt (piecesFrom left code) n shift)) × (l ≡ sets l slot (numsAt (piecesFrom left code) n shift))

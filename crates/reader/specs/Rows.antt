@@ -1,43 +1,29 @@
 -- The row of items, read from the left, with the place behind each.
 use mathlib.Core.Path.{_≡_, refl, sym, ap, ap₂, _∙_, subst, subst₂}
-use mathlib.Core.Bool.{Bool, true, false, _&&_}
+use mathlib.Core.Bool.{Bool, true, false}
 use mathlib.Core.List.{List, [], _∷_, _++_, append-assoc, append-nil}
-use Prim.Native.Nat.{ℕ, zero, suc, _+_, _-_, _*_, _^_, _/_, _%_, _≤_, _<_}
+use Prim.Native.Nat.{ℕ, zero, suc, _+_, _-_, _≤_, _<_}
 use native.Mathlib.Omega.{arith}
 use native.Mathlib.Numerals.{add-one}
-use borrow.Author.Tests.{eq-eqb, ne-eqb}
-use lib.Dec.{T, leb, eqb, leb→le, eqb→eq}
+use lib.Dec.{T, eqb, leb→le, eqb→eq}
 use lib.IntN.{ℤ, pos}
 use lib.ListN.{length, getD, drop, set, replicate, length-append}
-use lib.Seq.{sets, drop-cons}
-use Rattle.codec.specs.Pick.{pick}
-use Rattle.codec.specs.Codec.{Res, got, bad, mapRes, shift, Codec, opt}
+use lib.Seq.{sets}
+use Rattle.codec.specs.Codec.{Res, got, bad, opt}
 use Rattle.codec.specs.Line.{Held}
-use Rattle.codec.specs.Item.{Item, slots, nothing, item}
+use Rattle.codec.specs.Item.{slots, nothing, item}
 use Rattle.codec.specs.Field.{firstFlag, nextFlags, row, flags}
 use Rattle.codec.specs.Laws.Tests.{and-l, and-r}
 use Rattle.codec.specs.Laws.Long.{LongBy, many, long-shift, long-opt, long-item}
 use Rattle.layout.specs.Record.{allParts, allNumbers}
 use Rattle.tables.specs.Lines.{itemAt, spotAt}
+use Rattle.codec.specs.Laws.Sets.{sets-append}
+use Rattle.tables.specs.Shapes.{itemOn, spotOk, rowOk}
 use Rattle.reader.specs.Steps.{run}
 use Rattle.reader.specs.declared.lines.Step.{Step}
 use Rattle.reader.specs.declared.lines.Step.the-variants.{Next, Refused}
-use Rattle.reader.specs.Walk.{Stands, stands-bad, stands-got, stands-same, stood, fell, Ready, ready-after, sets-append, sets-zeros}
+use Rattle.reader.specs.Walk.{Stands, stands-got, stands-same, stood, fell, Ready, ready-after, sets-zeros}
 use Rattle.reader.specs.Items.{itemRun}
-
--- the item at a spot of the table
-abbrev pub itemOn : ℕ → Item
-itemOn k = itemAt (spotAt k .0)
-
--- its slots are slots of the record
-unfoldable pub spotOk : ℕ → Bool
-spotOk k = leb (spotAt k .1 + slots (itemOn k)) 77
-
--- and so for n spots, the slots of each beginning where those of the one before end
-unfoldable pub rowOk : ℕ → ℕ → Bool
-rowOk k zero = true
-rowOk k (suc zero) = spotOk k
-rowOk k (suc (suc n)) = spotOk k && (eqb (spotAt (k + 1) .1) (spotAt k .1 + slots (itemOn k)) && rowOk (k + 1) (suc n))
 
 unfoldable pub placeRun : ℕ → Bool → List ℕ → ℕ → Res Held
 placeRun k there xs at = run ((opt (nothing (slots (itemOn k))) there (item (itemOn k))) .read) xs at

@@ -1,15 +1,14 @@
 -- What `survey` answers: where each item begins, behind the last item where the field ends.
-use mathlib.Core.Path.{_≡_, refl, sym, ap, ap₂, _∙_, subst}
-use mathlib.Core.Bool.{Bool, true, false, _&&_}
+use mathlib.Core.Path.{_≡_, refl, sym, ap, _∙_, subst}
+use mathlib.Core.Bool.{Bool}
 use mathlib.Core.List.{List, [], _∷_, _++_}
 use Prim.Native.Nat.{ℕ, zero, suc, _+_, _-_, _≤_, _<_}
 use native.Mathlib.Omega.{arith}
 use lib.Dec.{T, ltb, eqb, lt→ltb}
-use lib.IntN.{ℤ, pos}
-use lib.ListN.{length, getD, take, drop, replicate, length-replicate}
-use lib.Pow.{areBytes}
-use lib.Seq.{sets, sets-eq, length-take-le}
-use Rattle.codec.specs.Codec.{Octets, Res, got, bad, shift, Codec, Lawful, Was, opt}
+use lib.IntN.{ℤ}
+use lib.ListN.{length, getD, take, drop, replicate}
+use lib.Seq.{sets-eq, length-take-le}
+use Rattle.codec.specs.Codec.{Octets, Res, got, bad, shift, Was, opt}
 use Rattle.codec.specs.Line.{Held}
 use Rattle.codec.specs.Item.{Item, slots, nothing, item, goodItem}
 use Rattle.codec.specs.Field.{uncons, firstFlag, nextFlags, place, flags, Contents, goodItems, texts, textsOf}
@@ -23,10 +22,12 @@ use Rattle.layout.specs.Papers.{paperOf, itemsOf}
 use Rattle.layout.specs.Laws.Papers.{good-paper, few-items}
 use Rattle.scope.specs.Reading.{fieldOf}
 use Rattle.tables.specs.Lines.{spotOf}
+use Rattle.tables.specs.Shapes.{itemOn, itemsFrom}
+use Rattle.tables.specs.Laws.Spots.{spots-right}
 use Rattle.reader.specs.declared.Surveyed.{Surveyed}
-use Rattle.reader.specs.Rows.{itemOn, placeRun, Found, found, goOn, rowFrom}
-use Rattle.reader.specs.Fields.{itemsFrom, spots-right, walkOf, answerTo, outAfter, WalkStands}
-use Rattle.reader.specs.Whole.{Sized, found-sized, drop-replicate, Walked, walked, walk-found, walk-fell, field-found, field-fell}
+use Rattle.reader.specs.Rows.{placeRun, Found, found, goOn, rowFrom}
+use Rattle.reader.specs.Fields.{walkOf, answerTo, outAfter, WalkStands}
+use Rattle.reader.specs.Whole.{found-sized, drop-replicate, Walked, walked, walk-found, walk-fell, field-found, field-fell}
 
 -- texts behind each other from a place on: where each begins, and where the last ends
 unfoldable pub startsFrom : ℕ → List (List ℕ) → List ℕ

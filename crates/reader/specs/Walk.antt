@@ -5,11 +5,12 @@ use Prim.Native.Nat.{ℕ, zero, suc, _+_, _≤_, _<_}
 use native.Mathlib.Omega.{arith}
 use native.Mathlib.Nat.{not-suc-le-zero}
 use lib.IntN.{ℤ, pos}
-use lib.ListN.{length, getD, take, drop, set, replicate, length-append, length-set}
+use lib.ListN.{length, getD, drop, set, replicate, length-set}
 use lib.Seq.{sets, drop-drop, set-getD, getD-set-other, getD-set-same, length-sets}
 use Rattle.codec.specs.Codec.{Res, got, bad, shift, mapRes, andThen, Codec, pairUp}
 use Rattle.codec.specs.Line.{Held}
 use Rattle.codec.specs.Item.{beside}
+use Rattle.codec.specs.Laws.Sets.{sets-append}
 use Rattle.reader.specs.Steps.{stepOf, afterOf, run}
 use Rattle.reader.specs.declared.lines.Step.{Step}
 use Rattle.reader.specs.declared.lines.Step.the-variants.{Next, Refused}
@@ -85,10 +86,6 @@ abbrev pub behind : List ℤ → Res Held → Res Held
 behind v y = mapRes (λ (w : Held). (w .0, v ++ w .1)) y
 
 -- ---- slots
-
-pub sets-append : {A : Type 0} (l : List A) (slot : ℕ) (v w : List A) → sets l slot (v ++ w) ≡ sets (sets l slot v) (slot + length v) w
-sets-append l slot [] w = ap (λ k. sets l k w) (omega arith)
-sets-append l slot (a ∷ v) w = sets-append (set l slot a) (suc slot) v w ∙ ap (λ k. sets (sets (set l slot a) (suc slot) v) k w) (omega arith)
 
 -- the array has its length, and zeros from slot on
 pub record Ready (l : List ℤ) (slot : ℕ) : Type 0 where

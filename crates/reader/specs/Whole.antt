@@ -2,22 +2,21 @@
 use mathlib.Core.Path.{_≡_, refl, sym, ap, ap₂, _∙_, subst}
 use mathlib.Core.Bool.{Bool, true, false}
 use mathlib.Core.List.{List, [], _∷_, _++_}
-use Prim.Native.Nat.{ℕ, zero, suc, _+_, _-_, _≤_, _<_}
+use Prim.Native.Nat.{ℕ, zero, suc, _+_, _-_, _≤_}
 use native.Mathlib.Omega.{arith}
 use borrow.Author.Tests.{ltb-false, eqb-true}
 use lib.Dec.{ltb, eqb}
 use lib.IntN.{ℤ, pos}
-use lib.ListN.{length, getD, take, drop, replicate, length-append, length-replicate, getD-replicate}
+use lib.ListN.{length, getD, take, drop, replicate, length-append, length-replicate}
 use lib.Seq.{sets, sets-eq}
 use Rattle.codec.specs.Pick.{pick}
 use Rattle.codec.specs.Codec.{Res, got, bad}
 use Rattle.codec.specs.Line.{Held}
-use Rattle.codec.specs.Item.{Item, slots}
-use Rattle.codec.specs.Field.{firstFlag, nextFlags, flags, Contents, allZero}
+use Rattle.codec.specs.Item.{slots}
+use Rattle.codec.specs.Field.{firstFlag, nextFlags, flags, allZero}
 use Rattle.codec.specs.Frame.{Outcome, accepted, refused, lenOf}
 use Rattle.codec.specs.Laws.Long.{LongBy, many}
 use Rattle.codec.specs.Laws.Frame.{mapOutcome}
-use Rattle.layout.specs.declared.Record.{Record}
 use Rattle.layout.specs.declared.Reading.{Reading}
 use Rattle.layout.specs.declared.Answer.{Answer}
 use Rattle.layout.specs.declared.Answer.the-variants.{Accepted, Refused}
@@ -26,9 +25,11 @@ use Rattle.layout.specs.Record.{allParts, allNumbers, allSlots, flatten}
 use Rattle.layout.specs.Laws.Papers.{few-items, few-slots}
 use Rattle.scope.specs.Reading.{fieldOf, noRecord, shown, readOf}
 use Rattle.tables.specs.Lines.{spotOf}
+use Rattle.tables.specs.Shapes.{itemOn, itemsFrom}
+use Rattle.tables.specs.Laws.Spots.{spots-right}
 use Rattle.reader.specs.Walk.{Ready}
-use Rattle.reader.specs.Rows.{itemOn, placeRun, Found, found, goOn, rowFrom, place-many}
-use Rattle.reader.specs.Fields.{itemsFrom, Spots, spots-right, ends, itemsIn, walkOf, answerTo, outAfter, WalkStands, field-walk}
+use Rattle.reader.specs.Rows.{placeRun, Found, found, goOn, rowFrom, place-many}
+use Rattle.reader.specs.Fields.{ends, itemsIn, walkOf, answerTo, outAfter, WalkStands, field-walk}
 
 -- ---- arrays of zeros
 

@@ -4,7 +4,7 @@
 ghost use mathlib.Core.Path.{_≡_};
 ghost use mathlib.Core.Bool.{true};
 ghost use mathlib.Core.List.{List};
-ghost use Prim.Native.Nat.{_+_, _-_, _^_, _/_, _%_, _≤_, _<_};
+ghost use Prim.Native.Nat.{_+_, _-_, _≤_, _<_};
 ghost use lib.Dec.{T};
 ghost use lib.IntN.{ℤ};
 ghost use lib.ListN.{length, drop, set};
@@ -16,11 +16,12 @@ ghost use Rattle.codec.specs.Frame.{lenOf};
 ghost use Rattle.layout.specs.Papers.{known};
 ghost use Rattle.scope.specs.Reading.{readOf};
 ghost use Rattle.tables.specs.Lines.{lineAt, firstAt, countAt, itemAt, spotAt};
+ghost use Rattle.tables.specs.Shapes.{partsOk, spotOk, rowOk};
 ghost use Rattle.reader.specs.Steps.{lineRun};
 ghost use Rattle.reader.specs.Walk.{Stands, Ready};
-ghost use Rattle.reader.specs.Chains.{chainRun, chainRoom, partsOk};
+ghost use Rattle.reader.specs.Chains.{chainRun, chainRoom};
 ghost use Rattle.reader.specs.Items.{HeldSoFar, more, itemRun};
-ghost use Rattle.reader.specs.Rows.{spotOk, rowOk, placeRun, rowFrom, RowStands};
+ghost use Rattle.reader.specs.Rows.{placeRun, rowFrom, RowStands};
 ghost use Rattle.reader.specs.Fields.{asAnswer, itemsIn, walkOf, WalkStands};
 ghost use Rattle.reader.specs.Surveys.{surveyOf};
 
@@ -197,14 +198,6 @@ fn place(s: &[u8], at: usize, k: usize, there: bool, numbers: &mut [i32; 77]) ->
     Step::Next(0, at)
 }
 
-// The bit of an item in the indicator, the first item's being the highest.
-fn bit(o: u8, i: usize) -> u8
-    requires { ⌜ i < 8 ⌝ }
-    ensures { λ r. ⌜ r ≡ o / 2 ^ (7 - i) % 2 ⌝ }
-{
-    (o >> ((7 - i) as u8)) % 2
-}
-
 fn put_part(parts: &mut [u8; 8], i: usize, p: u8)
     requires { ⌜ i < 8 ⌝ }
     ensures { λ _. ⌜ now (parts .exit) ≡ set (now (parts .entry)) i p ⌝ }
@@ -235,8 +228,8 @@ fn row(
     let mut at: usize = 2;
     let mut i: usize = 0;
     while i < n {
-        let f = bit(ind, i);
-        let a = place(s, at, first + i, f == 1, &mut *numbers);
+        let there = layout::present(ind, i);
+        let a = place(s, at, first + i, there, &mut *numbers);
         let Step::Next(p, next) = a else {
             return a;
         };

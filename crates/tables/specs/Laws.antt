@@ -1,3 +1,6 @@
--- What holds of every line and every spot.
+-- What holds of every line, row, shape and spot.
 pub mod Lines
+pub mod Rows
 pub mod Mask
+pub mod Shapes
+pub mod Spots

@@ -2,6 +2,7 @@
 // Promises: the tables say what the papers' data say; a lookup past its table gives an empty row. Stands on layout.
 ghost use mathlib.Core.Path.{_≡_};
 ghost use Rattle.tables.specs.Lines.{placedAt, rowOf, spotAt, spotOf};
+ghost use Rattle.tables.specs.Shapes.{shapeAt};
 
 // A chain part or a subfield: its octets, and the bits of them that are spare; its pieces, an octet each, the first lowest: kind × 32 + bits,
 // kind 0 spare, 1 plain, 2 signed, 3 a latitude, 4 an altitude; the number of pieces; the bits below them (FX); the first slot in the
@@ -83,6 +84,31 @@ pub fn row_of(line: usize) -> Row
         // 007, document 004, 2.3 TA
         45 => Row(4, 0xC000_C000, 0x4E02_4E02, 4, 0, 0, 0),
         _ => Row(0, 0, 0, 0, 0, 0, 0),
+    }
+}
+
+// The first line of an item, the parts of its chain, 0 for one subfield without a chain, and its subfields.
+pub struct Shape(pub usize, pub usize, pub usize);
+
+pub fn shape_at(k: usize) -> Shape
+    ensures { λ r. ⌜ r ≡ shapeAt k ⌝ }
+{
+    match k {
+        0 => Shape(0, 1, 7), // MD5
+        1 => Shape(8, 2, 8), // M5N
+        2 => Shape(18, 1, 0), // M4E
+        3 => Shape(19, 1, 4), // RPC
+        4 => Shape(24, 0, 0), // ERR
+        5 => Shape(25, 0, 0), // BPS
+        6 => Shape(26, 0, 0), // SelH
+        7 => Shape(27, 0, 0), // NAV
+        8 => Shape(28, 0, 0), // GAO
+        9 => Shape(29, 2, 0), // SGV
+        10 => Shape(31, 6, 0), // STA
+        11 => Shape(37, 0, 0), // TNH
+        12 => Shape(38, 1, 6), // MES
+        13 => Shape(45, 0, 0), // TA
+        _ => Shape(46, 0, 0),
     }
 }
 

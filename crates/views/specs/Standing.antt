@@ -1,10 +1,10 @@
 -- Where an item stands, as the code finds it: by the indicator and by where each item begins.
 use mathlib.Core.Path.{_≡_, refl, sym, ap, ap₂, _∙_, subst}
-use mathlib.Core.Bool.{true, false}
+use mathlib.Core.Bool.{Bool, true, false}
 use mathlib.Core.List.{List}
-use Prim.Native.Nat.{ℕ, suc, _-_, _^_, _/_, _%_, _≤_, _<_}
+use Prim.Native.Nat.{ℕ, suc, _-_, _≤_, _<_}
 use native.Mathlib.Omega.{arith}
-use borrow.Author.Tests.{le-leb, lt-leb, eq-eqb, ne-eqb}
+use borrow.Author.Tests.{le-leb, lt-leb}
 use lib.Dec.{leb, eqb}
 use lib.ListN.{getD}
 use Rattle.codec.specs.Pick.{pick}
@@ -15,7 +15,6 @@ use Rattle.layout.specs.declared.View.{View}
 use Rattle.layout.specs.declared.View.the-variants.{Shown, Hidden}
 use Rattle.layout.specs.Papers.{paperOf, itemsOf}
 use Rattle.layout.specs.Laws.Papers.{few-items}
-use Rattle.reader.specs.Flags.{flag-bit}
 use Rattle.scope.specs.Views.{isItem}
 
 -- the items of a category begin one after the other
@@ -64,17 +63,17 @@ module _ (cat ind : ℕ) (starts : List ℕ) (item : ℕ) {i : ℕ} (ei : i ≡ 
         let f : leb item (itemsOf cat) ≡ true = le-leb item (itemsOf cat) (omega arith) in
         rw (e, f) refl
 
-    module _ (o : ind < 256) {b : ℕ} (eb : b ≡ ind / 2 ^ (7 - (i - 1)) % 2) where
-      bit-is : b ≡ getD (flags ind) (item - 1) 0
-      bit-is = eb ∙ sym (flag-bit ind (i - 1) o item-low) ∙ ap (λ j. getD (flags ind) (j - 1) 0) ei
+    module _ {t : Bool} (et : t ≡ eqb (getD (flags ind) (i - 1) 0) 1) where
+      flag-is : eqb (getD (flags ind) (item - 1) 0) 1 ≡ t
+      flag-is = sym (et ∙ ap (λ j. eqb (getD (flags ind) (j - 1) 0) 1) ei)
 
-      pub stands-there : b ≡ 1 → Shown (getD starts (i - 1) 0) (getD starts i 0 - getD starts (i - 1) 0) ≡ standsAt cat ind starts item
+      pub stands-there : t ≡ true → Shown (getD starts (i - 1) 0) (getD starts i 0 - getD starts (i - 1) 0) ≡ standsAt cat ind starts item
       unfolding standsAt
       stands-there z =
           ap (λ j. Shown (getD starts (j - 1) 0) (getD starts j 0 - getD starts (j - 1) 0)) ei
-          ∙ sym (ap₂ (λ t u. pick t (pick u (Shown (getD starts (item - 1) 0) (getD starts item 0 - getD starts (item - 1) 0)) (Hidden 15 0)) (Hidden 12 0)) is-item (eq-eqb (getD (flags ind) (item - 1) 0) 1 (sym bit-is ∙ z)))
+          ∙ sym (ap₂ (λ t u. pick t (pick u (Shown (getD starts (item - 1) 0) (getD starts item 0 - getD starts (item - 1) 0)) (Hidden 15 0)) (Hidden 12 0)) is-item (flag-is ∙ z))
 
-      pub stands-absent : (b ≡ 1 → ⊥) → Hidden 15 0 ≡ standsAt cat ind starts item
+      pub stands-absent : t ≡ false → Hidden 15 0 ≡ standsAt cat ind starts item
       unfolding standsAt
       stands-absent z =
-          sym (ap₂ (λ t u. pick t (pick u (Shown (getD starts (item - 1) 0) (getD starts item 0 - getD starts (item - 1) 0)) (Hidden 15 0)) (Hidden 12 0)) is-item (ne-eqb (getD (flags ind) (item - 1) 0) 1 (λ e. z (bit-is ∙ e))))
+          sym (ap₂ (λ t u. pick t (pick u (Shown (getD starts (item - 1) 0) (getD starts item 0 - getD starts (item - 1) 0)) (Hidden 15 0)) (Hidden 12 0)) is-item (flag-is ∙ z))

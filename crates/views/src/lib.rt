@@ -1,7 +1,7 @@
 // The view of an item and the choice between two fields (01, 'Views and the choice between two fields').
 // Promises: the answers and the parts are those that 01 defines, for every input. Stands on reader, which it knows by its contracts.
 ghost use mathlib.Core.Path.{_≡_};
-ghost use Prim.Native.Nat.{ℕ, _+_, _-_, _^_, _/_, _%_, _≤_, _<_};
+ghost use Prim.Native.Nat.{ℕ, _+_, _-_, _≤_, _<_};
 ghost use lib.ListN.{length};
 ghost use Rattle.layout.specs.declared.View.the-variants.{Shown};
 ghost use Rattle.scope.specs.Views.{viewOf, partOf, chooseOf, chosenOf};
@@ -18,14 +18,6 @@ fn wide(b: u8) -> usize
     b as usize
 }
 
-// The bit of an item in the indicator, the first item's being the highest.
-fn bit(o: u8, i: usize) -> u8
-    requires { ⌜ i < 8 ⌝ }
-    ensures { λ r. ⌜ r ≡ o / 2 ^ (7 - i) % 2 ⌝ }
-{
-    (o >> ((7 - i) as u8)) % 2
-}
-
 // Where an item of a category stands in an accepted field, by its indicator and where each item begins.
 fn standing(cat: u8, items: u8, starts: [usize; 9], item: u8) -> View
     requires { ⌜ Rising cat starts ⌝ }
@@ -39,7 +31,7 @@ fn standing(cat: u8, items: u8, starts: [usize; 9], item: u8) -> View
     if n < i {
         return View::Hidden(12, 0);
     }
-    if bit(items, i - 1) == 1 {
+    if layout::present(items, i - 1) {
         let from = starts[i - 1];
         let to = starts[i];
         return View::Shown(from, to - from);

@@ -1,6 +1,6 @@
 -- `reader::item` meets its contract: each item by its own lines. Assumes nothing.
 use mathlib.Core.Path.{refl, subst}
-use Prim.Native.Nat.{ℕ, _+_, _≤_}
+use Prim.Native.Nat.{_+_, _≤_}
 use native.Mathlib.Omega.{arith}
 use denote.Ref.{now}
 use Rattle.codec.specs.Line.{count}
@@ -10,9 +10,10 @@ use Rattle.layout.specs.Cat048.{cat048}
 use Rattle.layout.specs.Cat021.{cat021}
 use Rattle.layout.specs.Cat007.{cat007}
 use Rattle.tables.specs.Lines.{items, placedFrom, placedIn, placed, placedAt, itemAt}
+use Rattle.tables.specs.Shapes.{linesFrom, partsOk, flagsUnder, itemOf}
 use Rattle.reader.specs.Steps.{lineRun}
-use Rattle.reader.specs.Chains.{linesFrom, partsOk, chainRoom}
-use Rattle.reader.specs.Items.{flagsUnder, itemOf, itemRun, chain-ready, as-item, as-line, as-chain, past-items}
+use Rattle.reader.specs.Chains.{chainRoom}
+use Rattle.reader.specs.Items.{itemRun, chain-ready, as-item, as-line, as-chain, past-items}
 use Rattle.reader.proofs.item.Statement.{statement}
 use Rattle.reader.proofs.item.Tie as tie
 

@@ -8,7 +8,7 @@ use lib.Dec.{eqb}
 use lib.Pow.{pow-mono, pow-pos}
 use mir.Syntax.{w8}
 use mir.Val.{Fits}
-use Rattle.reader.specs.Flags.{spare-bits}
+use Rattle.codec.specs.Laws.Flags.{spare-bits}
 use Rattle.reader.proofs.no_spare.Statement.{statement}
 use Rattle.reader.proofs.no_spare.Tie as tie
 

@@ -1,29 +1,16 @@
-use mathlib.Core.Path.{_≡_, sym, ap, _∙_}
-use Prim.Native.Nat.{ℕ, _-_, _^_, _/_, _%_, _<_}
+use Prim.Native.Nat.{_-_}
 use native.Mathlib.Omega.{arith}
 use borrow.Author.Needs.{needs}
 use denote.Ref.{now}
-use lib.Dec.{eqb}
-use lib.ListN.{getD}
-use mir.Syntax.{w8}
-use mir.Val.{Fits}
 use Rattle.codec.specs.Field.{flags}
-use Rattle.reader.specs.Flags.{flag-bit}
 use Rattle.reader.specs.Rows.{RowSoFar, row-begins, row-ends, row-ok, row-ready, row-stops, row-goes-on}
 use Rattle.reader.proofs.row.Statement.{statement}
 use Rattle.reader.proofs.row.Tie as tie
 use Rattle.reader.proofs.row.Reads as reads
 use Rattle.reader.proofs.row.Lts as lts
-use Rattle.reader.proofs.bit.Reads as bit-reads
 use Rattle.reader.proofs.place.Reads as place-reads
 use Rattle.reader.proofs.put_part.Reads as put-part-reads
 use Rattle.reader.proofs.put_start.Reads as put-start-reads
-
-octet-lt : {x : ℕ} → Fits w8 x → x < 256
-octet-lt f = f .fits
-
-flag-is : (ind i : ℕ) → ind < 256 → i < 8 → {f : ℕ} → f ≡ ind / 2 ^ (7 - i) % 2 → eqb f 1 ≡ eqb (getD (flags ind) i 0) 1
-flag-is ind i h k e = ap (λ x. eqb x 1) (e ∙ sym (flag-bit ind i h k))
 
 abbrev Inv-loop : tie.InvT-loop
 Inv-loop s first n ind numbers₀ parts₀ starts₀ at₀ i₀ numbers parts starts at i =
@@ -32,22 +19,18 @@ Inv-loop s first n ind numbers₀ parts₀ starts₀ at₀ i₀ numbers parts st
 abbrev μ-loop : tie.MeasureT-loop
 μ-loop s first n ind numbers₀ parts₀ starts₀ at₀ i₀ numbers parts starts at i = n - i
 
--- src/lib.rt:228:5
 loop-holds : tie.Need-loop-holds Inv-loop μ-loop
 loop-holds c =
     let s = c .before in
     let a = s .args in
     row-begins (now (a .numbers)) (now (a .parts)) (now (a .starts)) (a .first) (a .n) (flags (a .ind)) (now (a .s)) (s .pre .2) (s .pre .3)
 
--- src/lib.rt:229:13
-bit-requires : tie.Need-bit-requires Inv-loop μ-loop
-bit-requires c κs = omega arith
+present-requires : tie.Need-present-requires Inv-loop μ-loop
+present-requires c κs = search needs
 
--- src/lib.rt:230:30
 add-place : tie.Need-add-place Inv-loop μ-loop
 add-place c = omega arith
 
--- src/lib.rt:230:13
 place-requires : tie.Need-place-requires Inv-loop μ-loop
 place-requires c κs =
     let i = c .before .before in
@@ -59,15 +42,12 @@ place-requires c κs =
       row-ready (now (a .numbers)) (now (a .parts)) (now (a .starts)) (a .first) (a .n) (flags (a .ind)) (now (a .s)) so (i .loop-test .taken) (s .pre .4),
     )
 
--- src/lib.rt:231:24
 enum-known-a : tie.Need-enum-known-a Inv-loop μ-loop
 enum-known-a c = search needs
 
--- src/lib.rt:232:13
 enum-told : tie.Need-enum-told Inv-loop μ-loop
 enum-told c = search needs
 
--- src/lib.rt:232:13
 returns : tie.Need-returns Inv-loop μ-loop
 returns c =
     let p = c .before .before in
@@ -77,25 +57,20 @@ returns c =
     let s = l .before .before in
     let a = s .args in
     row-stops (now (a .numbers)) (now (a .parts)) (now (a .starts)) (a .first) (a .n) (flags (a .ind)) (now (a .s)) (l .loop .inv) (i .loop-test .taken)
-    (flag-is (a .ind) (l .loop .i) (octet-lt (s .fits .ind)) (omega arith) (b .bit .ensures)) (p .place .ensures) (c .enum-told .given .1) _ _
+    (b .present .ensures) (p .place .ensures) (c .enum-told .given .1) _ _
 
--- src/lib.rt:234:9
 put-part-requires : tie.Need-put-part-requires Inv-loop μ-loop
 put-part-requires c κs = omega arith
 
--- src/lib.rt:236:9
 add-i : tie.Need-add-i Inv-loop μ-loop
 add-i c = omega arith
 
--- src/lib.rt:237:9
 put-start-requires : tie.Need-put-start-requires Inv-loop μ-loop
 put-start-requires c κs = omega arith
 
--- src/lib.rt:228:5
 loop-less : tie.Need-loop-less Inv-loop μ-loop
 loop-less c = omega arith
 
--- src/lib.rt:228:5
 loop-again : tie.Need-loop-again Inv-loop μ-loop
 loop-again c =
     let q = c .before .before in
@@ -107,7 +82,7 @@ loop-again c =
     let s = l .before .before in
     let a = s .args in
     row-goes-on (now (a .numbers)) (now (a .parts)) (now (a .starts)) (a .first) (a .n) (flags (a .ind)) (now (a .s)) (l .loop .inv) (i .loop-test .taken)
-    (flag-is (a .ind) (l .loop .i) (octet-lt (s .fits .ind)) (omega arith) (b .bit .ensures)) (p .place .ensures) (y .a .given .1) (q .put-part .ensures) (c .put-start .ensures)
+    (b .present .ensures) (p .place .ensures) (y .a .given .1) (q .put-part .ensures) (c .put-start .ensures)
 
 returns-2 : tie.Need-returns-2 Inv-loop μ-loop
 returns-2 c =
@@ -123,7 +98,7 @@ row-spec =
     Inv-loop
     μ-loop
     loop-holds
-    bit-requires
+    present-requires
     add-place
     place-requires
     enum-known-a

@@ -1,15 +1,9 @@
 -- `views::standing` meets its contract: one law at each way out. Assumes nothing.
-use Prim.Native.Nat.{ℕ, _<_}
 use native.Mathlib.Omega.{arith}
 use borrow.Author.Needs.{needs}
-use mir.Syntax.{w8}
-use mir.Val.{Fits}
 use Rattle.views.specs.Standing.{stands-none, stands-past, item-low, rises, stands-there, stands-absent}
 use Rattle.views.proofs.standing.Statement.{statement}
 use Rattle.views.proofs.standing.Tie as tie
-
-octet-lt : {x : ℕ} → Fits w8 x → x < 256
-octet-lt f = f .fits
 
 returns : tie.Need-returns
 returns c =
@@ -24,14 +18,6 @@ returns-2 c =
     let w = n .before in
     let a = w .before .args in
     stands-past (a .cat) (a .items) (a .t3) (a .item) (w .wide .ensures .0) (n .items-of .ensures) (c .if2 .taken)
-
-bit-requires : tie.Need-bit-requires
-bit-requires c κs =
-    let z = c .before in
-    let n = z .before in
-    let w = n .before in
-    let a = w .before .args in
-    item-low (a .cat) (a .items) (a .t3) (a .item) (w .wide .ensures .0) (n .items-of .ensures) (z .if1 .left) (omega (arith, c .if2 .left))
 
 array-read-from : tie.Need-array-read-from
 array-read-from c =
@@ -68,7 +54,7 @@ returns-3 c =
     let n = z .before in
     let w = n .before in
     let a = w .before .args in
-    stands-there (a .cat) (a .items) (a .t3) (a .item) (w .wide .ensures .0) (n .items-of .ensures) (z .if1 .left) (omega (arith, p .if2 .left)) (octet-lt (w .before .fits .items)) (b .bit .ensures) (c .if3 .taken)
+    stands-there (a .cat) (a .items) (a .t3) (a .item) (w .wide .ensures .0) (n .items-of .ensures) (z .if1 .left) (omega (arith, p .if2 .left)) (b .present .ensures) (c .if3 .taken)
 
 returns-4 : tie.Need-returns-4
 returns-4 c =
@@ -78,9 +64,9 @@ returns-4 c =
     let n = z .before in
     let w = n .before in
     let a = w .before .args in
-    stands-absent (a .cat) (a .items) (a .t3) (a .item) (w .wide .ensures .0) (n .items-of .ensures) (z .if1 .left) (omega (arith, p .if2 .left)) (octet-lt (w .before .fits .items)) (b .bit .ensures) (c .if3 .left)
+    stands-absent (a .cat) (a .items) (a .t3) (a .item) (w .wide .ensures .0) (n .items-of .ensures) (z .if1 .left) (omega (arith, p .if2 .left)) (b .present .ensures) (c .if3 .left)
 
 pub standing-spec : {M : Type 1} → statement M
 standing-spec =
     tie.close
-    (tie.spec (λ c κs. search needs) (λ c κs. search needs) returns returns-2 (λ c. search needs) bit-requires (λ c. search needs) (λ c. search needs) array-read-from (λ c. search needs) array-read-to sub-t14 returns-3 returns-4)
+    (tie.spec (λ c κs. search needs) (λ c κs. search needs) returns returns-2 (λ c. search needs) (λ c κs. search needs) (λ c. search needs) (λ c. search needs) array-read-from (λ c. search needs) array-read-to sub-t14 returns-3 returns-4)

@@ -1,18 +1,18 @@
 -- `reader::lines::store` meets its contract: one law at each way out. Assumes nothing.
 use mathlib.Core.Path.{_≡_, refl, sym, ap, _∙_, subst}
-use Prim.Native.Nat.{ℕ, suc, _+_, _-_, _^_, _/_, _%_, _≤_, _<_}
+use Prim.Native.Nat.{ℕ, suc, _+_, _-_, _^_, _/_, _%_, _<_}
 use native.Mathlib.Nat.{mod-lt}
 use native.Mathlib.Omega.{arith}
 use borrow.Author.Needs.{needs, sfits-of}
 use denote.Ref.{now}
-use lib.IntN.{ℤ}
 use lib.ListN.{length}
 use lib.Pow.{pow-pos}
 use mir.Syntax.{w32}
 use mir.Facts.{toZ-ofZ, fits-of-lt}
 use Rattle.codec.specs.Line.{toNum}
 use Rattle.tables.specs.Lines.{kindOf, piecesFrom}
-use Rattle.reader.specs.Numbers.{numsAt, more-spare, more-num, store-none, spare-room, spare-narrow, store-spare, num-room, num-narrow, store-stop, store-on}
+use Rattle.tables.specs.Laws.Rows.{more-spare, more-num}
+use Rattle.reader.specs.Numbers.{numsAt, store-none, spare-room, spare-narrow, store-spare, num-room, num-narrow, store-stop, store-on}
 use borrow.Fn.Kinds.{In}
 use borrow.Fn.PlainCycle.{Measures, is, falls, and}
 use Rattle.reader.proofs.lines.store.Reads as store

@@ -1,13 +1,14 @@
 -- `reader::lines::line` meets its contract: one law at each way out. Assumes nothing.
-use Prim.Native.Nat.{ℕ, _+_, _*_, _^_, _%_, _≤_, _<_}
-use mathlib.Core.Path.{_≡_, sym, ap, _∙_, subst}
+use Prim.Native.Nat.{ℕ, _^_, _%_, _≤_, _<_}
+use mathlib.Core.Path.{sym, _∙_, subst}
 use native.Mathlib.Nat.{lt-of-lt-of-le, mod-lt}
 use native.Mathlib.Omega.{arith}
 use borrow.Author.Needs.{needs}
 use denote.Ref.{now}
 use lib.Pow.{pow-pos, pow-mono}
 use mir.Facts.{fits-of-lt}
-use Rattle.reader.specs.Lines.{row-few, row-runs, row-narrow, row-fx-few, row-first, row-room, line-5, line-6, line-8, line-got}
+use Rattle.tables.specs.Laws.Rows.{row-few, row-runs, row-narrow, row-fx-few, row-first}
+use Rattle.reader.specs.Lines.{row-room, line-5, line-6, line-8, line-got}
 use Rattle.reader.proofs.lines.line.Statement.{statement}
 use Rattle.reader.proofs.lines.line.Tie as tie
 

@@ -1,15 +1,15 @@
 -- The bits of the indicator as code takes them, by computed tests over every octet.
-use mathlib.Core.Path.{_≡_, refl, sym, _∙_, subst}
+use mathlib.Core.Path.{_≡_, refl, sym, subst}
 use mathlib.Core.Bool.{Bool, true, false, _&&_}
-use Prim.Native.Nat.{ℕ, zero, suc, _-_, _^_, _/_, _%_, _≤_, _<_}
+use Prim.Native.Nat.{ℕ, zero, suc, _-_, _^_, _/_, _%_, _<_}
 use native.Mathlib.Omega.{arith}
 use native.Mathlib.Nat.{not-suc-le-zero}
 use lib.Dec.{T, eqb, eqb→eq}
 use borrow.Author.Tests.{eqb-true, eqb-false}
 use lib.ListN.{getD, drop}
 use Rattle.codec.specs.Radix.{total, cut}
 use Rattle.codec.specs.Field.{flags, allZero}
 use Rattle.codec.specs.Laws.Tests.{and-l, and-r}
 
 -- a test passes at every number below n
 abbrev upTo : (ℕ → Bool) → ℕ → Bool
