@@ -5,4 +5,5 @@ pub mod Views
 pub mod Edits
 pub mod Refusals
 pub mod Unique
+pub mod Outputs
 pub mod RoundTrips
