@@ -1,9 +1,11 @@
 #!/usr/bin/env python3
-"""Asks the built program `vectors` damaged requests and noise, and holds each answer against tests/reference.py: SEED and SECONDS, then one figure.
+"""Asks a built program damaged requests and noise, and holds each answer against tests/reference.py: SEED, SECONDS and the program, then one figure.
 
     rt check vectors && python3 tests/compare.py 1 60
+    rt check records && python3 tests/compare.py 1 60 records
 
-It runs outside `rt ci`. Each request is one of tests/vectors.py, damaged at a few places; most keep a LEN that is their length, so that they get past it.
+It runs outside `rt ci`. Each request is one of tests/vectors.py or tests/records.py, damaged at a few places; most fields keep a LEN that is their
+length, so that they get past it, and many a change is made where the record has something.
 """
 import os
 import platform
@@ -14,17 +16,21 @@ import sys
 import time
 from pathlib import Path
 
-from vectors import BUFFER, CHOOSE, line_of, packed, requests
+import records
+import vectors
+from fields import BUFFER
+from records import ROOM, any_change
+from vectors import CHOOSE
 
-PROGRAM = Path(__file__).resolve().parent.parent / "target" / "bin" / "vectors"
+PROGRAMS = Path(__file__).resolve().parent.parent / "target" / "bin"
 KIT = Path(os.environ.get("RATTLE_HOME") or Path(shutil.which("rt")).resolve().parent.parent)
 
 
-def command():
+def command(name):
     """The program is for x86-64: elsewhere the kit's emulator runs it."""
     tools = KIT / "on" / platform.machine() / "toolchain"
     emulator = tools / "bin" / "qemu-x86_64"
-    return [str(emulator)] * emulator.exists() + [str(tools / "lib" / "ld-linux-x86-64.so.2"), "--library-path", str(tools / "lib"), str(PROGRAM)]
+    return [str(emulator)] * emulator.exists() + [str(tools / "lib" / "ld-linux-x86-64.so.2"), "--library-path", str(tools / "lib"), str(PROGRAMS / name)]
 
 
 def damaged(rng, field):
@@ -45,7 +51,7 @@ def damaged(rng, field):
     return bytes(octets)
 
 
-def asked(rng, known):
+def asked_vector(rng, known):
     kind, cat, item, field, correction = rng.choice(known)
     if rng.random() < 0.1:
         field = rng.randbytes(rng.randrange(60))
@@ -54,23 +60,53 @@ def asked(rng, known):
     return kind, cat, item, damaged(rng, field), damaged(rng, correction) if kind == CHOOSE else correction
 
 
-def batch(rng, known):
+def moved(rng, change):
+    """The change of a number by a little, by one bit, or to another place nearby."""
+    place, value = change
+    if rng.random() < 0.2:
+        return max(0, place + rng.choice([-1, 1])), value
+    value = value + rng.choice([-1, 1]) if rng.random() < 0.5 else value ^ 1 << rng.randrange(31)
+    return place, max(-2147483648, min(2147483647, value))
+
+
+def asked_record(rng, known):
+    room, cat, field, changes = rng.choice(known)
+    if rng.random() < 0.3:
+        _, cat, field, _ = rng.choice(known)
+    if rng.random() < 0.2:
+        field = damaged(rng, field)
+    changes = [moved(rng, change) if rng.random() < 0.3 else change for change in changes if rng.random() < 0.95]
+    if rng.random() < 0.2:
+        changes.insert(rng.randrange(len(changes) + 1), any_change(cat, rng))
+    if rng.random() < 0.5:
+        room = max(0, min(ROOM, room + rng.choice([-2, -1, 1, 2, 20])))
+    return room, cat, field, tuple(changes)
+
+
+ASKED = {"vectors": (vectors, asked_vector), "records": (records, asked_record)}
+
+
+def batch(rng, known, name):
     """As many requests as the program's buffer holds."""
+    program, asked = ASKED[name]
     made, size = [], 0
     while size < BUFFER - 1000:
         made.append(asked(rng, known))
-        size += len(packed(made[-1]))
+        size += len(program.packed(made[-1]))
     return made
 
 
 def main():
     rng, end = random.Random(int(sys.argv[1])), time.time() + float(sys.argv[2])
-    known = list(dict.fromkeys(requests()))
+    name = sys.argv[3] if len(sys.argv) > 3 else "vectors"
+    program, _ = ASKED[name]
+    known = list(dict.fromkeys(program.requests()))
     count = good = differences = 0
     while time.time() < end:
-        made = batch(rng, known)
-        told = subprocess.run(command(), input=b"".join(map(packed, made)), capture_output=True, check=True).stdout.decode().splitlines()
-        wanted = [line_of(request) for request in made]
+        made = batch(rng, known, name)
+        asked = b"".join(map(program.packed, made))
+        told = subprocess.run(command(name), input=asked, capture_output=True, check=True).stdout.decode().splitlines()
+        wanted = [program.line_of(request) for request in made]
         assert len(told) == len(wanted), (len(told), len(wanted))
         for request, answer, line in zip(made, told, wanted):
             good += line.startswith("ok")

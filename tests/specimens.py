@@ -36,13 +36,18 @@ def antt(z):
     return f"pos {z}" if z >= 0 else f"negsuc {-z - 1}"
 
 
-rng = random.Random(2026)
-for cat in PAPERS:
-    octets, (_, indicator, counts, numbers) = specimen(cat, rng)
-    print("    record {")
-    print(f"      cat = {cat};")
-    print("      octets = " + " ∷ ".join(f"0x{o:02X}" for o in octets) + " ∷ [];")
-    print(f"      items = 0x{indicator:02X};")
-    print("      parts = " + " ∷ ".join(map(str, counts)) + " ∷ [];")
-    print("      numbers = " + " ∷ ".join(map(antt, numbers)) + " ∷ [];")
-    print("    }")
+def main():
+    rng = random.Random(2026)
+    for cat in PAPERS:
+        octets, (_, indicator, counts, numbers) = specimen(cat, rng)
+        print("    record {")
+        print(f"      cat = {cat};")
+        print("      octets = " + " ∷ ".join(f"0x{o:02X}" for o in octets) + " ∷ [];")
+        print(f"      items = 0x{indicator:02X};")
+        print("      parts = " + " ∷ ".join(map(str, counts)) + " ∷ [];")
+        print("      numbers = " + " ∷ ".join(map(antt, numbers)) + " ∷ [];")
+        print("    }")
+
+
+if __name__ == "__main__":
+    main()

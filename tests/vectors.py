@@ -9,14 +9,16 @@ import random
 from collections import defaultdict
 from pathlib import Path
 
+from fields import (
+    BUFFER, UNKNOWN, drawn, field_of, full_field, good_field, item_octets, items_alone, least_count, lowest, ones, single_bits, whole_item, width,
+    zero,
+)
 from papers import PAPERS
-from reference import SLOTS, choose, lay_item, read, spare_bits, view
+from reference import SLOTS, choose, read, spare_bits, view
 
 CRATE = Path(__file__).resolve().parent.parent / "crates" / "vectors"
-BUFFER = 65536  # what the program reads at most
 READ, VIEW, CHOOSE, RECORD = 0, 1, 2, 3
 WHICH = ["neither", "base", "correction"]
-UNKNOWN = [0, 1, 6, 8, 20, 22, 47, 49, 255]
 ITEMS = [0, 1, 2, 3, 4, 5, 6, 7, 8, 9]
 BAD_FIELDS = {  # for each category fields that it refuses, by different numbers
     48: ["", "05", "00", "01 00", "02 01", "02 80", "03 20 0F", "03 20 07", "05 80 10 3F D7", "06 08 01 00 00 00"],
@@ -25,24 +27,7 @@ BAD_FIELDS = {  # for each category fields that it refuses, by different numbers
 }
 
 
-# ---- numbers, items and fields, laid out whatever they hold
-
-def width(number):
-    return number[1] - number[2] + 1
-
-
-def zero(number):
-    return 0
-
-
-def ones(number):
-    """All bits 1, or the highest latitude: with every number so, no range is left."""
-    return 4194304 if number[3] == "lat" else -1
-
-
-def lowest(number):
-    return {"u": 0, "lat": -4194304, "ga": -40}.get(number[3], -1 << (width(number) - 1))
-
+# ---- lines of a field
 
 def extremes(number):
     half = 1 << (width(number) - 1)
@@ -53,46 +38,6 @@ def extremes(number):
 def beyond(number):
     """What 8 refuses: just beyond a limit, and furthest from it."""
     return {"lat": [-4194305, 4194305, -8388608], "ga": [-41, -8192]}.get(number[3], [])
-
-
-def drawn(rng):
-    """Numbers that a field may hold."""
-    def pick(number):
-        half = 1 << (width(number) - 1)
-        low, high = {"u": (0, 2 * half - 1), "lat": (-4194304, 4194304), "ga": (-40, half - 1)}.get(number[3], (-half, half - 1))
-        return rng.randrange(low, high + 1)
-    return pick
-
-
-def flags_in(item, count):
-    """How many subfields the first parts of the chain can announce."""
-    return sum(len(numbers) for _, numbers in item[1][:count])
-
-
-def least_count(item, k):
-    """The parts that the chain needs to announce subfield k."""
-    return next(c for c in range(1, len(item[1]) + 1) if k < flags_in(item, c))
-
-
-def item_octets(item, count, there, pick):
-    """An item with so many parts, the subfields that are there, and the numbers that are picked."""
-    _, parts, subs = item
-    values = [int(k in there) for k in range(len(subs))] if subs and parts else [pick(n) for _, numbers in parts for n in numbers]
-    return lay_item(item, count, values + [pick(n) for _, _, numbers in subs for n in numbers])
-
-
-def whole_item(item, pick):
-    return item_octets(item, len(item[1]), range(len(item[2])), pick)
-
-
-def field_of(items):
-    """The field of these items, {0 for the first: octets}."""
-    body = b"".join(items[i] for i in sorted(items))
-    return bytes([len(body) + 2, sum(1 << (7 - i) for i in items)]) + body
-
-
-def full_field(cat, pick):
-    return field_of({i: whole_item(item, pick) for i, item in enumerate(PAPERS[cat])})
 
 
 def whole_lines(items):
@@ -120,20 +65,7 @@ def with_number(field, at, octets, number, z):
     return field[:at] + (old | (z & mask) << (lo - 1)).to_bytes(octets, "big") + field[at + octets:]
 
 
-def single_bits(mask):
-    return [1 << k for k in range(mask.bit_length()) if mask >> k & 1]
-
-
 # ---- fields of a category
-
-def items_alone(cat):
-    """Every item alone, every chain length, without and with all that it can announce."""
-    for i, item in enumerate(PAPERS[cat]):
-        for count in range(1, len(item[1]) + 1) if item[1] else [0]:
-            there = range(flags_in(item, count)) if item[1] else [0]
-            for some, pick in (([], zero), ([], ones), (there, zero), (there, ones)):
-                yield field_of({i: item_octets(item, count, some, pick)})
-
 
 def subfields_alone(cat):
     """Every subfield alone, behind the fewest parts and behind all."""
@@ -235,17 +167,6 @@ def short_strings(rng):
     yield from (bytes([2, 1 << k]) for k in range(8))
     yield from (bytes([first, rng.randrange(256)]) for first in (1, 2, 3) for _ in range(6))
     yield from (bytes([rng.randrange(256), rng.randrange(256)]) for _ in range(12))
-
-
-def good_field(cat, rng):
-    """Any items, parts, subfields and numbers that the paper allows."""
-    items = {}
-    for i, item in enumerate(PAPERS[cat]):
-        if rng.randrange(2):
-            count = rng.randrange(1, len(item[1]) + 1) if item[1] else 0
-            there = [k for k in range(flags_in(item, count)) if rng.randrange(2)]
-            items[i] = item_octets(item, count, there, drawn(rng))
-    return field_of(items)
 
 
 def damaged(field, rng):

@@ -1,5 +1,5 @@
 // Writes the answers of the operations to standard output, as words of a line: `ok` and what is answered, or `refused` with number and place.
-// Promises to end without a fault; of what is written nothing can be promised. Stands on layout, for edges and vectors alike.
+// Promises to end without a fault; of what is written nothing can be promised. Stands on layout, for edges, vectors and records alike.
 ghost use Prim.Native.Nat.{_<_};
 use layout::Answer;
 use layout::Choice;
@@ -30,6 +30,16 @@ pub fn what_was_kept(kept: Record) {
     chain_parts(parts);
     let numbers = kept.numbers;
     slots(numbers);
+}
+
+pub fn what_was_written(answer: Answer) {
+    match answer {
+        Answer::Accepted(length) => {
+            text(b"ok ");
+            number(length);
+        }
+        Answer::Refused(no, place) => refusal(no, place),
+    }
 }
 
 pub fn what_is_shown(view: View) {
