@@ -3,9 +3,10 @@
 
     rt check vectors && python3 tests/compare.py 1 60
     rt check records && python3 tests/compare.py 1 60 records
+    rt check edits && python3 tests/compare.py 1 60 edits
 
-It runs outside `rt ci`. Each request is one of tests/vectors.py or tests/records.py, damaged at a few places; most fields keep a LEN that is their
-length, so that they get past it, and many a change is made where the record has something.
+It runs outside `rt ci`. Each request is one of tests/vectors.py, tests/records.py or tests/edits.py, damaged at a few places; most fields keep a LEN
+that is their length, so that they get past it, many a change is made where the record has something, and many an edit is of a field that stays.
 """
 import os
 import platform
@@ -16,6 +17,7 @@ import sys
 import time
 from pathlib import Path
 
+import edits
 import records
 import vectors
 from fields import BUFFER
@@ -69,6 +71,11 @@ def moved(rng, change):
     return place, max(-2147483648, min(2147483647, value))
 
 
+def another_room(rng, room):
+    """The room, or one that is near it."""
+    return max(0, min(ROOM, room + rng.choice([-2, -1, 1, 2, 20]))) if rng.random() < 0.5 else room
+
+
 def asked_record(rng, known):
     room, cat, field, changes = rng.choice(known)
     if rng.random() < 0.3:
@@ -78,12 +85,29 @@ def asked_record(rng, known):
     changes = [moved(rng, change) if rng.random() < 0.3 else change for change in changes if rng.random() < 0.95]
     if rng.random() < 0.2:
         changes.insert(rng.randrange(len(changes) + 1), any_change(cat, rng))
+    return another_room(rng, room), cat, field, tuple(changes)
+
+
+def asked_edit(rng, known):
+    """One edit's item, list and new octets in another's field, most often of the category; then some of it damaged."""
+    room, cat, field, listed, item, new = rng.choice(known)
+    _, other, another, _, _, _ = rng.choice(known)
+    if other == cat or rng.random() < 0.1:
+        field = another
+    if rng.random() < 0.2:
+        field = damaged(rng, field)
+    if new is not None and rng.random() < 0.3:
+        new = damaged(rng, new)
+    if rng.random() < 0.2:
+        item = rng.randrange(10)
+    if rng.random() < 0.2:
+        listed ^= 1 << rng.randrange(8)
     if rng.random() < 0.5:
-        room = max(0, min(ROOM, room + rng.choice([-2, -1, 1, 2, 20])))
-    return room, cat, field, tuple(changes)
+        room = min(ROOM, len(field) + len(new or b""))
+    return another_room(rng, room), cat, field, listed, item, new
 
 
-ASKED = {"vectors": (vectors, asked_vector), "records": (records, asked_record)}
+ASKED = {"vectors": (vectors, asked_vector), "records": (records, asked_record), "edits": (edits, asked_edit)}
 
 
 def batch(rng, known, name):

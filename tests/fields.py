@@ -75,21 +75,37 @@ def single_bits(mask):
     return [1 << k for k in range(mask.bit_length()) if mask >> k & 1]
 
 
+def item_forms(item):
+    """Every chain length, without and with all that it can announce."""
+    for count in range(1, len(item[1]) + 1) if item[1] else [0]:
+        there = range(flags_in(item, count)) if item[1] else [0]
+        for some, pick in (([], zero), ([], ones), (there, zero), (there, ones)):
+            yield item_octets(item, count, some, pick)
+
+
 def items_alone(cat):
-    """Every item alone, every chain length, without and with all that it can announce."""
+    """Every item alone, in every form."""
     for i, item in enumerate(PAPERS[cat]):
-        for count in range(1, len(item[1]) + 1) if item[1] else [0]:
-            there = range(flags_in(item, count)) if item[1] else [0]
-            for some, pick in (([], zero), ([], ones), (there, zero), (there, ones)):
-                yield field_of({i: item_octets(item, count, some, pick)})
+        yield from (field_of({i: octets}) for octets in item_forms(item))
+
+
+def good_item(item, rng):
+    """Any parts, subfields and numbers that the paper allows."""
+    count = rng.randrange(1, len(item[1]) + 1) if item[1] else 0
+    there = [k for k in range(flags_in(item, count)) if rng.randrange(2)]
+    return item_octets(item, count, there, drawn(rng))
 
 
 def good_field(cat, rng):
-    """Any items, parts, subfields and numbers that the paper allows."""
-    items = {}
-    for i, item in enumerate(PAPERS[cat]):
-        if rng.randrange(2):
-            count = rng.randrange(1, len(item[1]) + 1) if item[1] else 0
-            there = [k for k in range(flags_in(item, count)) if rng.randrange(2)]
-            items[i] = item_octets(item, count, there, drawn(rng))
-    return field_of(items)
+    """Any items, each as any that the paper allows."""
+    return field_of({i: good_item(item, rng) for i, item in enumerate(PAPERS[cat]) if rng.randrange(2)})
+
+
+def write_requests(crate, made, packed, line_of):
+    """What the program of a crate is asked and has to answer; the octets of both."""
+    asked = b"".join(map(packed, made))
+    assert len(asked) <= BUFFER, len(asked)
+    told = "".join(line_of(request) + "\n" for request in made)
+    (crate / "stdin").write_bytes(asked)
+    (crate / "stdout").write_text(told)
+    return f"{len(asked)} octets asked, {len(told)} octets told"

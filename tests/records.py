@@ -11,8 +11,8 @@ from collections import defaultdict
 from pathlib import Path
 
 from fields import (
-    BUFFER, UNKNOWN, field_of, flags_in, full_field, good_field, item_octets, items_alone, least_count, limits, lowest, ones, single_bits, whole_item,
-    width, zero,
+    UNKNOWN, field_of, flags_in, full_field, good_field, item_octets, items_alone, least_count, limits, lowest, ones, single_bits, whole_item, width,
+    write_requests, zero,
 )
 from papers import PAPERS
 from reference import SLOTS, lay_record, read, size, write
@@ -345,12 +345,16 @@ def packed(request):
 
 # ---- the lines that are wanted
 
-def line_of(request):
-    room, *source = request
-    got = write(record_of(source), room)
+def answer_text(got, room):
+    """The answer of an operation with an output of this room, and every octet of the output."""
     output = (got[1] if got[0] == "ok" else b"").ljust(room, FILL)
     answer = f"ok {len(got[1])}" if got[0] == "ok" else f"refused {got[1]} at {got[2]}"
     return answer + "".join(f" {o:02X}" for o in output)
+
+
+def line_of(request):
+    room, *source = request
+    return answer_text(write(record_of(source), room), room)
 
 
 # ---- what the records reach
@@ -403,14 +407,10 @@ def covered(made):
 def main():
     made = list(dict.fromkeys(requests()))
     counts = covered(made)
-    asked = b"".join(map(packed, made))
-    assert len(asked) <= BUFFER, len(asked)
-    told = "".join(line_of(request) + "\n" for request in made)
-    (CRATE / "stdin").write_bytes(asked)
-    (CRATE / "stdout").write_text(told)
+    octets = write_requests(CRATE, made, packed, line_of)
     for cat in PAPERS:
         print(f"category {cat}: {counts[cat, 0]} written, {counts[cat, 10]} refused by 10, {counts[cat, 11]} by 11")
-    print(f"{len(made)} requests, {counts[None, 1]} of them refused by 1, {len(asked)} octets asked, {len(told)} octets told")
+    print(f"{len(made)} requests, {counts[None, 1]} of them refused by 1, {octets}")
 
 
 if __name__ == "__main__":

@@ -1,11 +1,11 @@
 #!/usr/bin/env python3
-"""01's worked octets, edits and longest fields, and records written by hand, held against the reference implementation of the tests."""
+"""01's worked octets, edits and longest fields, and edits and records written by hand, held against the reference implementation of the tests."""
+from edits import BASE, WORKED
 from papers import PAPERS
 from reference import SLOTS, choose, edit, read, size, view, write
 from vectors import READ, requests
 
 h = bytes.fromhex
-BASE = h("06 28 06 01 00 00")
 
 READS = [  # 01, 'Octets tried at each edge': octets, then the numbers that are not 0 by slot, or the refusal
     (48, "02 00", {}),
@@ -28,11 +28,64 @@ READS = [  # 01, 'Octets tried at each edge': octets, then the numbers that are 
     (21, "03 01 00", {}),
 ]
 
-EDITS = [  # 01, the edits of `06 28 06 01 00 00`
-    (0xFF, 5, "02 00 00", "06 28 06 02 00 00"),
-    (0xFF, 3, None, "05 08 01 00 00"),
-    (0xFF, 4, "80 07", "08 38 06 80 07 01 00 00"),
-    (0x30, 5, "02 00 00", 13),
+DESK = [  # by hand from 01: category, field, list, item, new octets, room, then the octets or the refusal
+    (48, "06 28 06 01 00 00", 0x08, 5, "02 00 00", 6, "06 28 06 02 00 00"),
+    (48, "06 28 06 01 00 00", 0x0F, 5, "02 00 00", 6, "06 28 06 02 00 00"),
+    (48, "06 28 06 01 00 00", 0xFF, 5, "01 00 00", 6, "06 28 06 01 00 00"),
+    (48, "06 28 06 01 00 00", 0xFF, 2, "01 00", 8, "08 68 01 00 06 01 00 00"),
+    (48, "08 68 01 00 06 01 00 00", 0xFF, 2, "00", 7, "07 68 00 06 01 00 00"),
+    (48, "07 68 00 06 01 00 00", 0xFF, 2, "01 80 1F", 9, "09 68 01 80 1F 06 01 00 00"),
+    (48, "06 28 06 01 00 00", 0xFF, 1, "10 3F D8", 52, "09 A8 10 3F D8 06 01 00 00"),
+    (48, "06 28 06 01 00 00", 0xFF, 5, None, 3, "03 20 06"),
+    (48, "06 28 06 01 00 00 FF", 0xFF, 5, None, 3, "03 20 06"),
+    (48, "03 20 06", 0x20, 3, None, 2, "02 00"),
+    (48, "06 28 06 01 00 00", 0x80, 1, None, 6, "06 28 06 01 00 00"),
+    (48, "02 00 FF", 0xFF, 5, None, 2, "02 00"),
+    (48, "02 00 FF", 0xFF, 5, "01 00 00", 5, "05 08 01 00 00"),
+    (21, "03 01 00", 0x01, 8, None, 2, "02 00"),
+    (21, "02 00", 0x80, 1, "0F FF", 4, "04 80 0F FF"),
+    (21, "05 0C 8F FE 02", 0x08, 5, "0F FF FE", 6, "06 0C 0F FF FE 02"),
+    (21, "06 0C 0F FF FE 02", 0x08, 5, "8F FE", 5, "05 0C 8F FE 02"),
+    (21, "06 0C 0F FF FE 02", 0x04, 6, "03 00", 7, "07 0C 0F FF FE 03 00"),
+    (7, "02 00", 0xF8, 1, "20 00 3F FF", 6, "06 80 20 00 3F FF"),
+    (7, "07 88 20 00 3F FF 01", 0xF8, 1, "20 00 3F FF", 7, (5, 6)),
+    (48, "06 28 06 01 00 00", 0xFF, 6, None, 52, 12),
+    (48, "06 28 06 01 00 00", 0xFF, 0, "06", 52, 12),
+    (48, "06 28 06 01 00 00", 0x00, 255, "", 0, 12),
+    (21, "03 01 00", 0xFF, 9, "00", 52, 12),
+    (7, "02 00", 0xFF, 8, None, 0, 12),
+    (48, "06 28 06 01 00 00", 0xF7, 5, "02 00 00", 52, 13),
+    (48, "06 28 06 01 00 00", 0x07, 3, None, 52, 13),
+    (48, "06 28 06 01 00 00", 0x30, 5, "", 0, 13),
+    (48, "06 28 06 01 00 00", 0x00, 1, None, 0, 13),
+    (21, "03 01 00", 0xFE, 8, None, 52, 13),
+    (48, "06 28 06 01 00 00", 0xFF, 3, "", 0, 14),
+    (48, "06 28 06 01 00 00", 0xFF, 3, "0E", 0, 14),
+    (48, "06 28 06 01 00 00", 0xFF, 3, "07", 52, 14),
+    (48, "06 28 06 01 00 00", 0xFF, 3, "06 00", 52, 14),
+    (48, "06 28 06 01 00 00", 0xFF, 5, "01 00", 52, 14),
+    (48, "06 28 06 01 00 00", 0xFF, 1, "10 3F D7", 52, 14),
+    (48, "06 28 06 01 00 00", 0xFF, 1, "20 40 00 01 80 00 00", 52, 14),
+    (48, "06 28 06 01 00 00", 0xFF, 3, "06" + "00" * 252, 52, 14),
+    (48, "06 28 06 01 00 00", 0xFF, 3, "06" + "00" * 253, 52, 14),
+    (48, "06 28 06 01 00 00", 0xFF, 3, "06" + "00" * 256, 52, 14),
+    (21, "02 00", 0x80, 1, "1F FF", 4, 14),
+    (48, "06 28 06 01 00 00", 0xFF, 2, "01 00", 7, 11),
+    (48, "06 28 06 01 00 00", 0xFF, 1, None, 5, 11),
+    (48, "06 28 06 01 00 00", 0xFF, 5, None, 2, 11),
+    (48, "03 20 06", 0xFF, 3, None, 1, 11),
+    (49, "06 28 06 01 00 00", 0xFF, 5, "02 00 00", 52, 1),
+    (49, "", 0x00, 9, "", 0, 1),
+    (48, "", 0x00, 9, "", 0, 2),
+    (48, "06 28 06", 0x00, 9, "", 0, 2),
+    (48, "01 28", 0x00, 9, "", 0, 3),
+    (48, "03 01 00", 0x00, 9, "", 0, (4, 1)),
+    (48, "02 80", 0x00, 9, "", 0, (5, 2)),
+    (48, "03 20 0F", 0x00, 9, "", 0, (6, 2)),
+    (48, "04 40 01 01", 0x00, 9, None, 0, (7, 3)),
+    (48, "05 80 10 3F D7", 0x00, 9, "", 0, (8, 3)),
+    (48, "06 08 01 00 00 00", 0x00, 9, "", 0, (9, 5)),
+    (48, "03 20 07", 0xFF, 3, "06", 52, (7, 2)),
 ]
 
 WRITES = [  # by hand from 01 and the papers: category, items, {item: parts}, {slot: number}, room, then the octets or the refusal
@@ -112,9 +165,10 @@ for cat, octets, expected in READS:
         assert {k: z for k, z in enumerate(got[2][3]) if z} == expected, (octets, got)
         assert write(got[2], 255) == ("ok", h(octets))
     checks += 1
-for listed, item, new, expected in EDITS:
-    got = edit(48, BASE, listed, item, None if new is None else h(new), 52)
-    assert got == (("refused", expected, 0) if isinstance(expected, int) else ("ok", h(expected))), got
+for cat, field, listed, item, new, room, expected in [(48, BASE.hex(), *row[:3], 52, row[3]) for row in WORKED] + DESK:
+    got = edit(cat, h(field), listed, item, None if new is None else h(new), room)
+    refusal = (expected, 0) if isinstance(expected, int) else expected
+    assert got == (("ok", h(expected)) if isinstance(expected, str) else ("refused", *refusal)), (field, item, new, got)
     checks += 1
 for cat, items, parts, numbers, room, expected in WRITES:
     record = (cat, items, [parts.get(i, 0) for i in range(1, 9)], [numbers.get(slot, 0) for slot in range(SLOTS)])

@@ -10,8 +10,8 @@ from collections import defaultdict
 from pathlib import Path
 
 from fields import (
-    BUFFER, UNKNOWN, drawn, field_of, full_field, good_field, item_octets, items_alone, least_count, lowest, ones, single_bits, whole_item, width,
-    zero,
+    UNKNOWN, drawn, field_of, full_field, good_field, item_octets, items_alone, least_count, lowest, ones, single_bits, whole_item, width,
+    write_requests, zero,
 )
 from papers import PAPERS
 from reference import SLOTS, choose, read, spare_bits, view
@@ -326,15 +326,11 @@ def covered(made):
 def main():
     made = list(dict.fromkeys(requests()))
     counts, places = covered(made)
-    asked = b"".join(map(packed, made))
-    assert len(asked) <= BUFFER, len(asked)
-    told = "".join(line_of(request) + "\n" for request in made)
-    (CRATE / "stdin").write_bytes(asked)
-    (CRATE / "stdout").write_text(told)
+    octets = write_requests(CRATE, made, packed, line_of)
     for cat in PAPERS:
         reached = " ".join(f"{number}:{len(places[cat, number])}" for number in range(2, 10))
         print(f"category {cat}: {counts[cat]} vectors; places of each refusal of the reader: {reached}")
-    print(f"{len(made)} vectors, {len(asked)} octets asked, {len(told)} octets told")
+    print(f"{len(made)} vectors, {octets}")
 
 
 if __name__ == "__main__":

@@ -7,11 +7,11 @@ pub mod Codec
 pub mod Line
 pub mod Item
 pub mod Field
-pub mod Flags
 pub mod Frame
 pub mod View
 pub mod Longest
 pub mod Within
 pub mod Change
+pub mod Flags
 pub mod Long
 pub mod Arms

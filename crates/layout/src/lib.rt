@@ -1,9 +1,11 @@
 // The papers as data (specs/), the record, the answers, the categories.
 // Promises: a category's three numbers are what its paper's data say. Stands on codec.
 ghost use mathlib.Core.Path.{_≡_};
+ghost use Prim.Native.Nat.{_^_, _/_, _<_};
 ghost use lib.Dec.{eqb};
 ghost use lib.ListN.{getD};
 ghost use Rattle.codec.specs.Field.{flags};
+ghost use Rattle.codec.specs.Change.{setFlag};
 ghost use Rattle.layout.specs.Papers.{known, itemsOf, longestOf};
 
 // What a field reads to. `items` is laid out as the indicator, `parts` has the parts of each item's chain, `numbers` every
@@ -116,4 +118,36 @@ pub fn present(items: u8, i: usize) -> bool
         return (items >> ((7 - i) as u8)) % 2 == 1;
     }
     false
+}
+
+// The bit of the item with index i, below eight.
+fn bit(i: usize) -> u8
+    requires { ⌜ i < 8 ⌝ }
+    ensures { λ r. ⌜ r ≡ 128 / 2 ^ i ⌝ }
+{
+    128u8 >> (i as u8)
+}
+
+// An indicator with the item of index i, and without it.
+pub fn with_item(items: u8, i: usize) -> u8
+    ensures { λ r. ⌜ r ≡ setFlag items i 1 ⌝ }
+{
+    if i < 8 {
+        if present(items, i) {
+            return items;
+        }
+        return items + bit(i);
+    }
+    items
+}
+
+pub fn without_item(items: u8, i: usize) -> u8
+    ensures { λ r. ⌜ r ≡ setFlag items i 0 ⌝ }
+{
+    if i < 8 {
+        if present(items, i) {
+            return items - bit(i);
+        }
+    }
+    items
 }

@@ -7,3 +7,4 @@ pub mod Refusals
 pub mod Unique
 pub mod Outputs
 pub mod RoundTrips
+pub mod Edited

@@ -3,6 +3,7 @@ use mathlib.Core.Path.{_≡_, refl, sym, ap, _∙_, subst}
 use mathlib.Core.Bool.{Bool}
 use mathlib.Core.List.{List, [], _∷_, _++_}
 use Prim.Native.Nat.{ℕ, zero, suc, _+_, _-_, _≤_, _<_}
+use native.Mathlib.Nat.{not-suc-le-zero, le-of-suc-le-suc}
 use native.Mathlib.Omega.{arith}
 use lib.Dec.{T, ltb, eqb, lt→ltb}
 use lib.IntN.{ℤ}
@@ -11,11 +12,13 @@ use lib.Seq.{sets-eq, length-take-le}
 use Rattle.codec.specs.Codec.{Octets, Res, got, bad, shift, Was, opt}
 use Rattle.codec.specs.Line.{Held}
 use Rattle.codec.specs.Item.{Item, slots, nothing, item, goodItem}
-use Rattle.codec.specs.Field.{uncons, firstFlag, nextFlags, place, flags, Contents, goodItems, texts, textsOf}
+use Rattle.codec.specs.Field.{uncons, firstFlag, nextFlags, place, flags, Contents, goodItems, texts, textsOf, before}
 use Rattle.codec.specs.Frame.{Outcome, accepted, refused, lenOf}
 use Rattle.codec.specs.Laws.Tests.{and-in, and-l, and-r}
 use Rattle.codec.specs.Laws.Codec.{octets-drop, octets-take, lawful-opt}
 use Rattle.codec.specs.Laws.Item.{only-nothing, lawful-item}
+use Rattle.codec.specs.Laws.Field.{length-texts}
+use Rattle.codec.specs.Laws.View.{before-next}
 use Rattle.layout.specs.declared.Answer.{Answer}
 use Rattle.layout.specs.declared.Answer.the-variants.{Accepted, Refused}
 use Rattle.layout.specs.Papers.{paperOf, itemsOf}
@@ -42,6 +45,30 @@ surveyed cat s (refused n p) = record { answer = Refused n p; items = 0; starts 
 unfoldable pub surveyOf : ℕ → List ℕ → Surveyed
 unfolding surveyed
 surveyOf cat s = surveyed cat s (fieldOf cat s)
+
+-- ---- where the texts begin
+
+starts-at : (at : ℕ) (ts : List (List ℕ)) (zs : List ℕ) (i : ℕ) → i ≤ length ts → getD (startsFrom at ts ++ zs) i 0 ≡ at + before ts i
+unfolding startsFrom before
+starts-at at [] zs zero h = omega arith
+starts-at at [] zs (suc i) h = absurd (not-suc-le-zero h)
+starts-at at (t ∷ ts) zs zero h = omega arith
+starts-at at (t ∷ ts) zs (suc i) h = let ih : getD (startsFrom (at + length t) ts ++ zs) i 0 ≡ at + length t + before ts i = starts-at (at + length t) ts zs i (le-of-suc-le-suc h) in ih ∙ (omega arith)
+
+-- an item of a field: where it begins, and its length
+module _ (cat : ℕ) (r : Contents) (zs : List ℕ) where
+  many : length (textsOf (paperOf cat) r) ≡ itemsOf cat
+  unfolding textsOf
+  many = length-texts (flags (r .0)) (paperOf cat) (r .1)
+
+  pub begins : (i : ℕ) → i < itemsOf cat → getD (startsFrom 2 (textsOf (paperOf cat) r) ++ zs) i 0 ≡ 2 + before (textsOf (paperOf cat) r) i
+  begins i h = let m = many in starts-at 2 (textsOf (paperOf cat) r) zs i (omega (arith, m))
+
+  pub ends : (i : ℕ) → i < itemsOf cat → getD (startsFrom 2 (textsOf (paperOf cat) r) ++ zs) (suc i) 0 ≡ 2 + before (textsOf (paperOf cat) r) i + length (getD (textsOf (paperOf cat) r) i [])
+  ends i h =
+      let m = many in
+      let n : before (textsOf (paperOf cat) r) (suc i) ≡ before (textsOf (paperOf cat) r) i + length (getD (textsOf (paperOf cat) r) i []) = before-next (textsOf (paperOf cat) r) i (omega (arith, m)) in
+      starts-at 2 (textsOf (paperOf cat) r) zs (suc i) (omega (arith, m)) ∙ (omega (arith, n))
 
 -- the promise of `survey` allows one result
 pub one-survey : (cat : ℕ) (s : List ℕ) {r r′ : Surveyed} → r ≡ surveyOf cat s → r′ ≡ surveyOf cat s → r ≡ r′

@@ -3,8 +3,7 @@
 // five octets each. The record that the field reads to is changed and written; the line has the answer and every octet of the output.
 // tests/records.py makes the requests, and by an implementation of 01 of its own the lines.
 
-ghost use mathlib.Core.Path.{_≡_};
-ghost use Prim.Native.Nat.{_≤_, _<_};
+ghost use Prim.Native.Nat.{_≤_};
 ghost use lib.ListN.{length};
 use layout::Record;
 
@@ -13,9 +12,6 @@ const HEAD: usize = 4;
 
 // The octets of a change: its place in the record, and the value as a number of four octets.
 const CHANGE: usize = 5;
-
-// The longest output; the longest field is shorter.
-const ROOM: usize = 64;
 
 // Where a record has its parts, its items and its category, behind the slots of its numbers.
 const PARTS: usize = 77;
@@ -48,48 +44,28 @@ fn answer_all(input: &[u8]) {
 fn size_of(requests: &[u8]) -> usize
     ensures { λ r. ⌜ r ≤ length (now (requests .entry)) ⌝ }
 {
-    let size = HEAD + count_at(requests, 2) + CHANGE * count_at(requests, 3);
+    let size = HEAD + ask::count_at(requests, 2) + CHANGE * ask::count_at(requests, 3);
     if size <= requests.len() {
         return size;
     }
     0
 }
 
-fn count_at(octets: &[u8], at: usize) -> usize
-    ensures { λ r. ⌜ r < 256 ⌝ }
-{
-    say::wide(octet_at(octets, at))
-}
-
-fn octet_at(octets: &[u8], at: usize) -> u8 {
-    if at < octets.len() {
-        return octets[at];
-    }
-    0
-}
-
 fn answer_one(request: &[u8]) {
-    let end = HEAD + count_at(request, 2);
+    let end = HEAD + ask::count_at(request, 2);
     if end <= request.len() {
-        let reading = reader::read(octet_at(request, 1), &request[HEAD..end]);
+        let reading = reader::read(ask::octet_at(request, 1), &request[HEAD..end]);
         let kept = reading.kept;
-        answer_write(changed(kept, &request[end..]), count_at(request, 0));
+        answer_write(changed(kept, &request[end..]), ask::count_at(request, 0));
     }
     say::text(b"\n");
 }
 
 fn answer_write(kept: Record, room: usize) {
-    let mut output = filled();
-    if room <= ROOM {
+    let mut output = ask::filled();
+    if room <= ask::ROOM {
         write_into(kept, &mut output[..room]);
     }
-}
-
-// An output that holds no field yet, so that its rest shows, and of a refusal all of it.
-fn filled() -> [u8; ROOM]
-    ensures { λ r. ⌜ 64 ≡ length r ⌝ }
-{
-    [0xEE; ROOM]
 }
 
 fn write_into(kept: Record, output: &mut [u8]) {
@@ -112,15 +88,15 @@ fn changed(kept: Record, changes: &[u8]) -> Record {
 // Parts, items and category are octets: of their value the last octet counts.
 fn with_change(kept: Record, change: &[u8]) -> Record {
     let mut made = kept;
-    let place = count_at(change, 0);
+    let place = ask::count_at(change, 0);
     if place < PARTS {
         made.numbers[place] = value_of(change);
     } else if place < ITEMS {
-        made.parts[place - PARTS] = octet_at(change, 4);
+        made.parts[place - PARTS] = ask::octet_at(change, 4);
     } else if place == ITEMS {
-        made.items = octet_at(change, 4);
+        made.items = ask::octet_at(change, 4);
     } else if place == CATEGORY {
-        made.cat = octet_at(change, 4);
+        made.cat = ask::octet_at(change, 4);
     }
     made
 }
@@ -136,7 +112,7 @@ fn value_of(change: &[u8]) -> i32 {
 
 // Four octets, the high octet first.
 fn bits_of(change: &[u8]) -> u32 {
-    let high = count_at(change, 1) * 256 + count_at(change, 2);
-    let low = count_at(change, 3) * 256 + count_at(change, 4);
+    let high = ask::count_at(change, 1) * 256 + ask::count_at(change, 2);
+    let low = ask::count_at(change, 3) * 256 + ask::count_at(change, 4);
     (high * 65536 + low) as u32
 }

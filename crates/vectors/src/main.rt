@@ -2,7 +2,7 @@
 // A request is its kind (0 read, 1 view, 2 choose, 3 the record alone), the category, the item, two counts of two octets each, and so many
 // octets of a field and of a correction field. tests/vectors.py makes the requests, and by an implementation of 01 of its own the lines.
 
-ghost use Prim.Native.Nat.{_≤_, _<_};
+ghost use Prim.Native.Nat.{_≤_};
 ghost use lib.ListN.{length};
 
 // The octets of a request before its fields.
@@ -32,35 +32,20 @@ fn answer_all(input: &[u8]) {
 fn size_of(requests: &[u8]) -> usize
     ensures { λ r. ⌜ r ≤ length (now (requests .entry)) ⌝ }
 {
-    let size = HEAD + count_at(requests, 3) + count_at(requests, 5);
+    let size = HEAD + ask::long_count_at(requests, 3) + ask::long_count_at(requests, 5);
     if size <= requests.len() {
         return size;
     }
     0
 }
 
-// A count has its high octet first.
-fn count_at(request: &[u8], at: usize) -> usize
-    requires { ⌜ at < 7 ⌝ }
-    ensures { λ r. ⌜ r < 65536 ⌝ }
-{
-    say::wide(octet_at(request, at)) * 256 + say::wide(octet_at(request, at + 1))
-}
-
-fn octet_at(request: &[u8], at: usize) -> u8 {
-    if at < request.len() {
-        return request[at];
-    }
-    0
-}
-
 // The fields are lent as parts of the request, so that nothing but the request's own octets can stand behind LEN.
 fn answer_one(request: &[u8]) {
-    let end = HEAD + count_at(request, 3);
+    let end = HEAD + ask::long_count_at(request, 3);
     if end <= request.len() {
-        let kind = octet_at(request, 0);
-        let cat = octet_at(request, 1);
-        let item = octet_at(request, 2);
+        let kind = ask::octet_at(request, 0);
+        let cat = ask::octet_at(request, 1);
+        let item = ask::octet_at(request, 2);
         let field = &request[HEAD..end];
         match kind {
             0 => answer_read(cat, field),

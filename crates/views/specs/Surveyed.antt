@@ -12,8 +12,6 @@ use Rattle.codec.specs.Codec.{Octets}
 use Rattle.codec.specs.Field.{flags, Contents, textsOf, before}
 use Rattle.codec.specs.Frame.{Outcome, accepted, refused, lenOf}
 use Rattle.codec.specs.Laws.Tests.{and-l, and-r}
-use Rattle.codec.specs.Laws.Field.{length-texts}
-use Rattle.codec.specs.Laws.View.{before-next}
 use Rattle.layout.specs.declared.Answer.the-variants.{Accepted, Refused}
 use Rattle.layout.specs.declared.View.{View}
 use Rattle.layout.specs.declared.View.the-variants.{Shown, Hidden}
@@ -23,17 +21,8 @@ use Rattle.scope.specs.Views.{isItem, present, standing, viewIn, viewOf}
 use Rattle.promises.specs.Reading.{Accepted≢Refused, Refused≢Accepted, read-front}
 use Rattle.promises.specs.Views.{seen, view-inside, front-length}
 use Rattle.reader.specs.declared.Surveyed.{Surveyed}
-use Rattle.reader.specs.Surveys.{startsFrom, surveyed, surveyOf}
+use Rattle.reader.specs.Surveys.{startsFrom, surveyed, surveyOf, begins, ends}
 use Rattle.views.specs.Standing.{Rising, standsAt}
-
--- ---- where the texts begin
-
-starts-at : (at : ℕ) (ts : List (List ℕ)) (zs : List ℕ) (i : ℕ) → i ≤ length ts → getD (startsFrom at ts ++ zs) i 0 ≡ at + before ts i
-unfolding startsFrom before
-starts-at at [] zs zero h = omega arith
-starts-at at [] zs (suc i) h = absurd (not-suc-le-zero h)
-starts-at at (t ∷ ts) zs zero h = omega arith
-starts-at at (t ∷ ts) zs (suc i) h = let ih : getD (startsFrom (at + length t) ts ++ zs) i 0 ≡ at + length t + before ts i = starts-at (at + length t) ts zs i (le-of-suc-le-suc h) in ih ∙ (omega arith)
 
 item-bounds : (cat item : ℕ) → isItem (paperOf cat) item ≡ true → (1 ≤ item) × (item ≤ itemsOf cat)
 unfolding isItem
@@ -45,24 +34,10 @@ pick-same : (x : Bool) (a b c : View) → (x ≡ true → a ≡ b) → pick x a 
 pick-same true a b c f = f refl
 pick-same false a b c f = refl
 
--- an item of a field: where it begins, and its length
 module _ (cat : ℕ) (r : Contents) (zs : List ℕ) where
-  many : length (textsOf (paperOf cat) r) ≡ itemsOf cat
-  unfolding textsOf
-  many = length-texts (flags (r .0)) (paperOf cat) (r .1)
-
-  begins : (i : ℕ) → i < itemsOf cat → getD (startsFrom 2 (textsOf (paperOf cat) r) ++ zs) i 0 ≡ 2 + before (textsOf (paperOf cat) r) i
-  begins i h = let m = many in starts-at 2 (textsOf (paperOf cat) r) zs i (omega (arith, m))
-
-  ends : (i : ℕ) → i < itemsOf cat → getD (startsFrom 2 (textsOf (paperOf cat) r) ++ zs) (suc i) 0 ≡ 2 + before (textsOf (paperOf cat) r) i + length (getD (textsOf (paperOf cat) r) i [])
-  ends i h =
-      let m = many in
-      let n : before (textsOf (paperOf cat) r) (suc i) ≡ before (textsOf (paperOf cat) r) i + length (getD (textsOf (paperOf cat) r) i []) = before-next (textsOf (paperOf cat) r) i (omega (arith, m)) in
-      starts-at 2 (textsOf (paperOf cat) r) zs (suc i) (omega (arith, m)) ∙ (omega (arith, n))
-
   rising-in : Rising cat (startsFrom 2 (textsOf (paperOf cat) r) ++ zs)
   unfolding Rising
-  rising-in i h = let a = begins i h in let b = ends i h in omega (arith, a, b)
+  rising-in i h = let a = begins cat r zs i h in let b = ends cat r zs i h in omega (arith, a, b)
 
   shown-in : (item : ℕ) → 1 ≤ item → item ≤ itemsOf cat
       → Shown (getD (startsFrom 2 (textsOf (paperOf cat) r) ++ zs) (item - 1) 0) (getD (startsFrom 2 (textsOf (paperOf cat) r) ++ zs) item 0 - getD (startsFrom 2 (textsOf (paperOf cat) r) ++ zs) (item - 1) 0)
@@ -73,8 +48,8 @@ module _ (cat : ℕ) (r : Contents) (zs : List ℕ) where
       let ps : List ℕ = startsFrom 2 ts ++ zs in
       let h : item - 1 < itemsOf cat = omega arith in
       let j : item ≡ suc (item - 1) = omega arith in
-      let a : getD ps (item - 1) 0 ≡ 2 + before ts (item - 1) = begins (item - 1) h in
-      let b : getD ps item 0 ≡ 2 + before ts (item - 1) + length (getD ts (item - 1) []) = ap (λ x. getD ps x 0) j ∙ ends (item - 1) h in
+      let a : getD ps (item - 1) 0 ≡ 2 + before ts (item - 1) = begins cat r zs (item - 1) h in
+      let b : getD ps item 0 ≡ 2 + before ts (item - 1) + length (getD ts (item - 1) []) = ap (λ x. getD ps x 0) j ∙ ends cat r zs (item - 1) h in
       let l : getD ps item 0 - getD ps (item - 1) 0 ≡ length (getD ts (item - 1) []) = omega (arith, a, b) in
       ap₂ Shown a l
 

@@ -1,0 +1,164 @@
+// The slot desk (01, the section of that name): one item of a field is added, replaced or removed by a slot that was booked for it.
+// Promises: `remove` and `replace` answer and leave what 01 defines, for every input: the field written afresh with that one item changed, or a refusal that writes nothing.
+// Stands on reader and writer, which it knows by their contracts.
+ghost use mathlib.Core.Path.{_≡_};
+ghost use mathlib.Core.List.{List};
+ghost use Prim.Native.Nat.{_+_, _-_, _≤_, _<_};
+ghost use lib.ListN.{length, set};
+ghost use lib.Seq.{sets};
+ghost use Rattle.codec.specs.Change.{remove, put};
+ghost use Rattle.scope.specs.Writing.{withRoom};
+ghost use Rattle.promises.specs.Outputs.{Leaves};
+ghost use Rattle.promises.specs.Edited.{Edited};
+ghost use Rattle.desk.specs.Asking.{askedOf, acceptedIs, rightOf};
+ghost use Rattle.desk.specs.Splicing.{spliceOf};
+use layout::Answer;
+
+fn wide(o: u8) -> usize
+    ensures { λ r. ⌜ r ≡ o ⌝ }
+{
+    o as usize
+}
+
+// 12 for no item of the category, 13 for one off the slot's list, else 0.
+fn asked(cat: u8, list: u8, item: u8) -> u8
+    ensures { λ r. ⌜ r ≡ askedOf cat list item ⌝ }
+{
+    let i = wide(item);
+    let n = layout::items_of(cat);
+    if i == 0 {
+        return 12;
+    }
+    if n < i {
+        return 12;
+    }
+    if layout::present(list, i - 1) {
+        return 0;
+    }
+    13
+}
+
+fn octet(n: usize) -> u8
+    requires { ⌜ n ≤ 255 ⌝ }
+    ensures { λ r. ⌜ r ≡ n ⌝ }
+{
+    n as u8
+}
+
+fn put_octet(octets: &mut [u8; 255], at: usize, o: u8)
+    requires { ⌜ at < 255 ⌝ }
+    ensures { λ _. ⌜ now (octets .exit) ≡ set (now (octets .entry)) at o ⌝ }
+{
+    octets[at] = o;
+}
+
+// Octets into an array from a place on.
+fn paste(from: &[u8], at: usize, octets: &mut [u8; 255])
+    requires { ⌜ at + length (now from) ≤ 255 ⌝ }
+    ensures { λ _. ⌜ now (octets .exit) ≡ sets (now (octets .entry)) at (now (from .entry)) ⌝ }
+{
+    let mut i: usize = 0;
+    while i < from.len() {
+        put_octet(&mut *octets, at + i, from[i]);
+        i += 1;
+    }
+}
+
+fn is_accepted(a: Answer) -> bool
+    ensures { λ r. ⌜ r ≡ acceptedIs a ⌝ }
+{
+    match a {
+        Answer::Accepted(_) => true,
+        Answer::Refused(_, _) => false,
+    }
+}
+
+// Whether new octets are right for the item of index i: LEN, an indicator with that one bit and these octets are a field.
+fn right(cat: u8, i: usize, new: &[u8]) -> bool
+    ensures { λ r. ⌜ r ≡ rightOf cat i (now (new .entry)) ⌝ }
+{
+    let n = new.len();
+    if n == 0 {
+        return false;
+    }
+    if 253 < n {
+        return false;
+    }
+    let mut octets = [0u8; 255];
+    octets[0] = octet(n + 2);
+    octets[1] = layout::with_item(0, i);
+    paste(new, 2, &mut octets);
+    let found = reader::survey(cat, &octets[..n + 2]);
+    let a = found.answer;
+    is_accepted(a)
+}
+
+// A field with its octets from a place to another exchanged for new ones, and another indicator.
+fn spliced(field: &[u8], items: u8, from: usize, to: usize, new: &[u8], out: &mut [u8]) -> Answer
+    requires { ⌜ (2 ≤ from) × (from ≤ to) × (to ≤ length (now field)) × (from + length (now new) + (length (now field) - to) ≤ 255) ⌝ }
+    ensures { λ r. ⌜ Leaves (withRoom (length (now (out .entry))) (spliceOf items (now (field .entry)) from to (now (new .entry)))) (now (out .entry)) r (now (out .exit)) ⌝ }
+{
+    let n = from + new.len() + (field.len() - to);
+    let mut octets = [0u8; 255];
+    octets[0] = octet(n);
+    octets[1] = items;
+    paste(&field[2..from], 2, &mut octets);
+    paste(new, from, &mut octets);
+    paste(&field[to..], from + new.len(), &mut octets);
+    writer::deliver(&octets[..n], &mut *out)
+}
+
+// An item removed; an absent one leaves the field itself.
+pub fn remove(cat: u8, field: &[u8], list: u8, item: u8, out: &mut [u8]) -> Answer
+    ensures { λ r. ⌜ Edited cat (now (field .entry)) list item remove (now (out .entry)) r (now (out .exit)) ⌝ }
+{
+    let found = reader::survey(cat, field);
+    let a = found.answer;
+    let Answer::Accepted(len) = a else {
+        return a;
+    };
+    let no = asked(cat, list, item);
+    if no == 0 {
+        let i = wide(item) - 1;
+        let starts = found.starts;
+        let items = layout::without_item(found.items, i);
+        return spliced(
+            &field[..len],
+            items,
+            starts[i],
+            starts[i + 1],
+            &field[..0],
+            &mut *out,
+        );
+    }
+    Answer::Refused(no, 0)
+}
+
+// An item replaced by new octets, or added.
+pub fn replace(cat: u8, field: &[u8], list: u8, item: u8, new: &[u8], out: &mut [u8]) -> Answer
+    ensures { λ r. ⌜ Edited cat (now (field .entry)) list item (put (now (new .entry))) (now (out .entry)) r (now (out .exit)) ⌝ }
+{
+    let found = reader::survey(cat, field);
+    let a = found.answer;
+    let Answer::Accepted(len) = a else {
+        return a;
+    };
+    let no = asked(cat, list, item);
+    if no == 0 {
+        let i = wide(item) - 1;
+        if right(cat, i, new) {
+            let starts = found.starts;
+            let items = layout::with_item(found.items, i);
+            return spliced(
+                &field[..len],
+                items,
+                starts[i],
+                starts[i + 1],
+                new,
+                &mut *out,
+            );
+        }
+        return Answer::Refused(14, 0);
+    }
+    Answer::Refused(no, 0)
+}
