@@ -25,7 +25,8 @@ use Rattle.scope.specs.Writing.{writable, written}
 use Rattle.tables.specs.Lines.{spotAt, spotOf}
 use Rattle.tables.specs.Shapes.{rowOk, itemsFrom}
 use Rattle.tables.specs.Laws.Spots.{Spots, spots-right}
-use Rattle.writer.specs.Laying.{Put, Lays}
+use Rattle.writer.specs.Laying.{Lays}
+use Rattle.codec.specs.Laws.Sets.{Put}
 use Rattle.writer.specs.Rows.{heldFrom}
 
 -- the record of the four values that `lay` takes

@@ -7,27 +7,11 @@ use native.Mathlib.Omega.{arith}
 use lib.Dec.{T}
 use lib.IntN.{ℤ}
 use lib.ListN.{length, take, drop, length-append}
-use lib.Seq.{sets}
 use Rattle.codec.specs.Codec.{Codec, Blank, absent, opt, guard, seq, via}
 use Rattle.codec.specs.Line.{Held}
 use Rattle.codec.specs.Item.{beside}
-use Rattle.codec.specs.Laws.Sets.{sets-append}
+use Rattle.codec.specs.Laws.Sets.{Put, put-behind, put-none}
 use Rattle.codec.specs.Laws.Tests.{and-l, and-r}
-
--- the octets xs were put into l at a place, which gives m and the next place
-pub record Put (xs l : List ℕ) (at : ℕ) (m : List ℕ) (next : ℕ) : Type 0 where
-  pub octets : m ≡ sets l at xs
-  pub place : next ≡ at + length xs
-
-put-behind : {xs ys l m q : List ℕ} {at next last : ℕ} → Put xs l at m next → Put ys m next q last → Put (xs ++ ys) l at q last
-put-behind {xs} {ys} {l} {m} {q} {at} {next} {last} a b = record {
-  octets = b .octets ∙ ap₂ (λ x j. sets x j ys) (a .octets) (a .place) ∙ sym (sets-append l at xs ys);
-  place =
-      let e : length (xs ++ ys) ≡ length xs + length ys = length-append xs ys in
-      let f : next ≡ at + length xs = a .place in
-      let g : last ≡ next + length ys = b .place in
-      omega arith;
-}
 
 -- what laying a value promises: where the codec can write it and there is room, its octets are put
 pub record Lays {A : Type 0} (c : Codec A) (v : A) (l : List ℕ) (at : ℕ) (m : List ℕ) (next : ℕ) : Type 0 where
@@ -46,9 +30,6 @@ module _ {l m : List ℕ} {at next : ℕ} where
   lays-there z c e {a} h = subst (λ x. Lays (opt z x c) a l at m next) (sym e) h
 
 -- nothing is laid
-pub put-none : (l : List ℕ) (at : ℕ) → Put [] l at l at
-put-none l at = record { octets = refl; place = omega arith }
-
 pub lays-none : {A : Type 0} (z : Blank A) {a : A} {l : List ℕ} {at : ℕ} → Lays (absent z) a l at l at
 lays-none z {l = l} {at = at} = record { laid = λ t r. put-none l at }
 
