@@ -1,5 +1,6 @@
-// The program of 01's edges: reads each row of its table 'Octets tried at each edge', in that order, then shows and chooses items.
-// Its file `stdout` is written by hand: the readings from that table, the views and the choices from 01's section on them.
+// The program of 01's edges: reads each row of its table 'Octets tried at each edge', in that order, then shows and chooses items and says angles.
+// Its file `stdout` is written by hand: the readings from that table, the views and the choices from 01's section on them, the angles from the line
+// below the table and, where it has none, from 'The sheet'.
 
 fn main() {
     read_rows_of_parts();
@@ -8,6 +9,8 @@ fn main() {
     show_refusals();
     choose_items();
     choose_refusals();
+    say_angles();
+    say_angles_of_ends();
     read_worked_field();
 }
 
@@ -82,6 +85,22 @@ fn choose_refusals() {
     choose(49, b"\x02\x80", b"\x02\x80", 9);
 }
 
+// The angles that 01 gives below its table.
+fn say_angles() {
+    say_angle(1);
+    say_angle(16_384);
+    say_angle(-16_384);
+    say_angle(4_194_304);
+}
+
+// The other end of the latitude, both ends of the longitude, and zero between them.
+fn say_angles_of_ends() {
+    say_angle(-4_194_304);
+    say_angle(-8_388_608);
+    say_angle(8_388_607);
+    say_angle(0);
+}
+
 // The field of README: M4E is 3, ERR is 65,536 steps.
 fn read_worked_field() {
     read(48, b"\x06\x28\x06\x01\x00\x00");
@@ -112,6 +131,14 @@ fn choose<'a>(cat: u8, base: &'a [u8], correction: &'a [u8], item: u8) {
     let choice = views::choose_answer(cat, base, correction, item);
     say::what_was_chosen(choice);
     say::octets(views::choose(cat, base, correction, item));
+    say::text(b"\n");
+}
+
+fn say_angle(n: i32) {
+    say::text(b"angle ");
+    say::signed(n);
+    say::text(b" -> ");
+    say::signed_wide(angle::udeg(n));
     say::text(b"\n");
 }
 

@@ -156,8 +156,12 @@ fn digit(d: u8) -> u8 {
     b'?'
 }
 
+pub fn signed(z: i32) {
+    signed_wide(z as i64);
+}
+
 // The complement of a number below 0 is one less than its magnitude, and fits for every number.
-fn signed(z: i32) {
+pub fn signed_wide(z: i64) {
     if z < 0 {
         text(b"-");
         io::print_decimal(1, (!z) as u64 + 1);
