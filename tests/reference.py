@@ -229,3 +229,59 @@ def edit(cat, field, listed, item, new, room):
     if len(body) + 2 > room:
         raise Refusal(11, 0)
     return ("ok", bytes([len(body) + 2, indicator]) + body)
+
+
+# ---- the sheet
+
+def udeg(n):
+    """Millionths of a degree, nearest, halves away from zero; the exact angle is n * 703125 / 32768."""
+    whole, rest = divmod(abs(n) * 703125, 32768)
+    return (whole + (2 * rest >= 32768)) * (-1 if n < 0 else 1)
+
+
+def keys(item):
+    """A key for each number of an item, in the order of its slots; None for a presence flag."""
+    name, parts, subs = item
+    alone = parts if not subs else [] if parts else [(octets, numbers) for _, octets, numbers in subs]
+    if alone:
+        several = sum(len(numbers) for _, numbers in alone) > 1
+        return [f"{name}.{n[0]}" if several else name for _, numbers in alone for n in numbers]
+    flags = [None for _, numbers in parts for _ in numbers]
+    return flags + [f"{name}.{sub}.{n[0]}" if len(numbers) > 1 else f"{name}.{sub}" for sub, _, numbers in subs for n in numbers]
+
+
+def shown(item, count, numbers):
+    """For each number of an item whether its chain part or subfield is there."""
+    _, parts, subs = item
+    there = [k < count for k, (_, defined) in enumerate(parts) for _ in defined]
+    return there + [not parts or numbers[k] == 1 for k, (_, _, defined) in enumerate(subs) for _ in defined]
+
+
+def number_lines(key, z):
+    lines = [f"{key}={z}"]
+    if key.endswith((".LAT", ".LON")):
+        lines.append(f"{key}.udeg={udeg(z)}")
+    if key == "BPS":
+        lines.append(f"BPS.tenths={8000 + z}")
+    return lines
+
+
+def sheet(octets):
+    """The text of a category octet and a field, at most 256 octets."""
+    octets = octets[:256]
+    if not octets:
+        return "cat=none\nrefused=2\nat=0\n"
+    cat, got = octets[0], read(octets[0], octets[1:])
+    if got[0] != "ok":
+        return f"cat={cat}\nrefused={got[1]}\nat={got[2]}\n"
+    _, length, (_, indicator, counts, numbers) = got
+    present = [(i, item) for i, item in enumerate(PAPERS[cat]) if indicator >> (7 - i) & 1]
+    lines = [f"cat={cat}", f"len={length}", "items=" + ",".join(item[0] for _, item in present)]
+    starts = [sum(map(size, PAPERS[cat][:i])) for i in range(8)]
+    for i, item in present:
+        own = numbers[starts[i]:starts[i] + size(item)]
+        if len(item[1]) > 1:
+            lines.append(f"{item[0]}.chain={counts[i]}")
+        for key, there, z in zip(keys(item), shown(item, counts[i], own), own):
+            lines += number_lines(key, z) if key and there else []
+    return "\n".join(lines + ["end=ok"]) + "\n"

@@ -2,7 +2,7 @@
 """01's worked octets, edits and longest fields, and edits and records written by hand, held against the reference implementation of the tests."""
 from edits import BASE, WORKED
 from papers import PAPERS
-from reference import SLOTS, choose, edit, read, size, view, write
+from reference import choose, edit, read, sheet, size, SLOTS, udeg, view, write
 from vectors import READ, requests
 
 h = bytes.fromhex
@@ -184,4 +184,6 @@ assert [longest(c) for c in (48, 21, 7)] == [52, 31, 38]
 assert [sum(map(size, PAPERS[c])) for c in (48, 21, 7)] == [77, 74, 46]
 assert view(48, BASE, 5) == ("ok", 3, 3, h("01 00 00"))
 assert choose(48, BASE, h("03 20 04"), 3) == ("ok", 2, 2, 1, h("04"))
-print(f"{checks + 4} passed, 0 failed")
+assert sheet(h("30 06 28 06 01 00 00")) == "cat=48\nlen=6\nitems=M4E,ERR\nM4E=3\nERR=65536\nend=ok\n"
+assert [udeg(n) for n in (1, 16384, -16384, 4194304)] == [21, 351563, -351563, 90000000]
+print(f"{checks + 6} passed, 0 failed")

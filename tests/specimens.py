@@ -1,12 +1,14 @@
 #!/usr/bin/env python3
 """Prints the rows of crates/layout/specs/Specimens.antt: a field of each category with every item, part and subfield, and the record that it reads to.
+With `sheets` behind, the last rows of crates/scope/specs/Sheets.antt: the sheets of those fields.
 
 The numbers are drawn so that each differs from its neighbours' widths and signs: signed ones are negative, wide ones have their highest bit set.
 """
 import random
+import sys
 
 from papers import PAPERS
-from reference import SLOTS, lay_record, read
+from reference import SLOTS, lay_record, read, sheet
 
 
 def draw(rng, number):
@@ -36,17 +38,32 @@ def antt(z):
     return f"pos {z}" if z >= 0 else f"negsuc {-z - 1}"
 
 
+def hexed(octets):
+    return "".join(f"0x{o:02X} ∷ " for o in octets) + "[]"
+
+
+def record_row(octets, record):
+    cat, indicator, counts, numbers = record
+    return "\n".join([
+        "    record {",
+        f"      cat = {cat};",
+        f"      octets = {hexed(octets)};",
+        f"      items = 0x{indicator:02X};",
+        "      parts = " + " ∷ ".join(map(str, counts)) + " ∷ [];",
+        "      numbers = " + " ∷ ".join(map(antt, numbers)) + " ∷ [];",
+        "    }",
+    ])
+
+
+def sheet_row(octets, record):
+    given = bytes([record[0]]) + octets
+    return "    ∷ record { input = %s;\n      lines = \"%s\" }" % (hexed(given), sheet(given).replace("\n", "\\n"))
+
+
 def main():
-    rng = random.Random(2026)
+    rng, row = random.Random(2026), sheet_row if sys.argv[1:] == ["sheets"] else record_row
     for cat in PAPERS:
-        octets, (_, indicator, counts, numbers) = specimen(cat, rng)
-        print("    record {")
-        print(f"      cat = {cat};")
-        print("      octets = " + " ∷ ".join(f"0x{o:02X}" for o in octets) + " ∷ [];")
-        print(f"      items = 0x{indicator:02X};")
-        print("      parts = " + " ∷ ".join(map(str, counts)) + " ∷ [];")
-        print("      numbers = " + " ∷ ".join(map(antt, numbers)) + " ∷ [];")
-        print("    }")
+        print(row(*specimen(cat, rng)))
 
 
 if __name__ == "__main__":

@@ -8,3 +8,4 @@ pub mod Record
 pub mod Answer
 pub mod Specimens
 pub mod Laws
+pub mod Names

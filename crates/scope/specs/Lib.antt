@@ -4,4 +4,6 @@ pub mod Writing
 pub mod Views
 pub mod Desk
 pub mod Angle
+pub mod Sheet
+pub mod Sheets
 pub mod Edges
