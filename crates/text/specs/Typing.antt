@@ -1,0 +1,110 @@
+-- Words of the sheet put into its buffer by place: what the code of each word promises, and how one goes behind another.
+use mathlib.Core.Path.{_≡_, refl, sym, ap, _∙_, subst}
+use mathlib.Core.Bool.{true, false}
+use mathlib.Core.List.{List, [], _∷_, _++_}
+use Prim.Native.Nat.{ℕ, zero, suc, _+_, _-_, _/_, _%_, _≤_, _<_}
+use native.Mathlib.Nat.{mod-eq-of-lt}
+use native.Mathlib.Omega.{arith}
+use borrow.Author.Tests.{lt-ltb, le-ltb, ltb-true}
+use lib.IntN.{ℤ, pos, negsuc, natAbs}
+use lib.ListN.{length, set, take, drop, getD, length-append}
+use lib.Seq.{sets-eq, take-suc, take-all, take-append-seam}
+use lib.Signed.{mag, ltZ}
+use Rattle.codec.specs.Laws.Sets.{Put, put-behind, put-none}
+use Rattle.scope.specs.Sheet.{digitsOf, decimal, signedDecimal, line}
+
+-- what typing a word promises: where the buffer has room for it, its octets are put
+pub record Types (xs l : List ℕ) (at : ℕ) (m : List ℕ) (next : ℕ) : Type 0 where
+  pub typed : at + length xs ≤ 4_096 → Put xs l at m next
+
+-- one word behind another
+pub types-behind : {xs ys l m q : List ℕ} {at next last : ℕ} → Types xs l at m next → Types ys m next q last → Types (xs ++ ys) l at q last
+types-behind {xs} {ys} {l} {m} {q} {at} {next} {last} a b = record {
+  typed = λ r.
+      let e : length (xs ++ ys) ≡ length xs + length ys = length-append xs ys in
+      let p : Put xs l at m next = a .typed (omega arith) in
+      let f : next ≡ at + length xs = p .place in
+      put-behind p (b .typed (omega arith));
+}
+
+-- nothing is typed
+pub types-none : (l : List ℕ) (at : ℕ) → Types [] l at l at
+types-none l at = record { typed = λ r. put-none l at }
+
+-- a text typed from the start of the buffer stands in front of it
+pub typed-front : (xs : List ℕ) → length xs ≤ 4_096 → {l m : List ℕ} {next : ℕ} → length l ≡ 4_096 → Types xs l 0 m next → (next ≡ length xs) × (take next m ≡ xs)
+typed-front xs h {l} {m} {next} k a =
+    let p : Put xs l 0 m next = a .typed (omega arith) in
+    let e : next ≡ length xs = p .place ∙ omega arith in
+    (e, ap (λ j. take j m) e ∙ ap (take (length xs)) (p .octets ∙ sets-eq xs l 0 (omega arith)) ∙ take-append-seam xs (drop (0 + length xs) l))
+
+-- ---- the ways out of `octet`
+
+pub octet-there : (o : ℕ) (l : List ℕ) (at : ℕ) → Types (o ∷ []) l at (set l at o) (at + 1)
+octet-there o l at = record { typed = λ r. record { octets = refl; place = refl } }
+
+pub octet-full : (o : ℕ) (l : List ℕ) (at : ℕ) → 4_096 ≤ at → Types (o ∷ []) l at l at
+octet-full o l at h = record { typed = λ r. absurd (omega arith) }
+
+-- ---- the first i octets of a word, and one more
+
+pub word-more : (s : List ℕ) (i : ℕ) → i < length s → {l m q : List ℕ} {at next last : ℕ}
+    → Types (take i s) l at m next → Types (getD s i 0 ∷ []) m next q last → Types (take (i + 1) s) l at q last
+word-more s i h {l} {m} {q} {at} {next} {last} a b =
+    let e : i + 1 ≡ suc i = omega arith in
+    subst (λ x. Types x l at q last) (sym (ap (λ j. take j s) e ∙ take-suc s i 0 h)) (types-behind a b)
+
+pub word-whole : (s : List ℕ) (i : ℕ) → length s ≤ i → {l m : List ℕ} {at next : ℕ} → Types (take i s) l at m next → Types s l at m next
+word-whole s i h {l} {m} {at} {next} a = subst (λ x. Types x l at m next) (take-all i s h) a
+
+-- ---- the ways out of `digits`
+
+pub digits-none : (f n : ℕ) → f ≡ 0 → (l : List ℕ) (at : ℕ) → Types (digitsOf f n) l at l at
+unfolding digitsOf
+digits-none f n e l at = rw e (types-none l at)
+
+one-digit : (f n : ℕ) → (f ≡ 0 → ⊥) → n < 10 → digitsOf f n ≡ (48 + n % 10) ∷ []
+unfolding digitsOf
+one-digit zero n some h = absurd (some refl)
+one-digit (suc f) n some h = let e : n % 10 ≡ n = mod-eq-of-lt h in rw (lt-ltb n 10 h, e) refl
+
+more-digits : (f n : ℕ) → (f ≡ 0 → ⊥) → 10 ≤ n → digitsOf f n ≡ digitsOf (f - 1) (n / 10) ++ ((48 + n % 10) ∷ [])
+unfolding digitsOf
+more-digits zero n some h = absurd (some refl)
+more-digits (suc f) n some h = let e : suc f - 1 ≡ f = omega arith in rw (le-ltb n 10 h, e) refl
+
+-- the last digit is o
+module _ (f n : ℕ) (some : f ≡ 0 → ⊥) {o : ℕ} (eo : o ≡ 48 + n % 10) {l m : List ℕ} {at next : ℕ} where
+  pub digits-one : n < 10 → Types (o ∷ []) l at m next → Types (digitsOf f n) l at m next
+  digits-one h a = subst (λ x. Types x l at m next) (ap (_∷ []) eo ∙ sym (one-digit f n some h)) a
+
+  pub digits-more : 10 ≤ n → {q : List ℕ} {last : ℕ} → Types (digitsOf (f - 1) (n / 10)) l at m next → Types (o ∷ []) m next q last → Types (digitsOf f n) l at q last
+  digits-more h {q} {last} a b =
+      subst (λ x. Types x l at q last) (ap (λ x. digitsOf (f - 1) (n / 10) ++ (x ∷ [])) eo ∙ sym (more-digits f n some h)) (types-behind a b)
+
+-- a number in decimal has at most twenty digits
+pub types-decimal : (n : ℕ) {l m : List ℕ} {at next : ℕ} → Types (digitsOf 20 n) l at m next → Types (decimal n) l at m next
+unfolding decimal
+types-decimal n a = a
+
+-- ---- the ways out of `signed`
+
+pub signed-below : (z : ℤ) → ltZ z (pos 0) ≡ true → {l m q : List ℕ} {at next last : ℕ}
+    → Types (45 ∷ []) l at m next → Types (decimal (mag z + 1)) m next q last → Types (signedDecimal z) l at q last
+unfolding signedDecimal
+signed-below (pos n) t a b = absurd (omega (arith, ltb-true n 0 t))
+signed-below (negsuc n) t {m = m} {q = q} {next = next} {last = last} a b =
+    let e : n + 1 ≡ suc n = omega arith in
+    types-behind a (subst (λ k. Types (decimal k) m next q last) e b)
+
+pub signed-above : (z : ℤ) → ltZ z (pos 0) ≡ false → {l m : List ℕ} {at next : ℕ} → Types (decimal (natAbs z)) l at m next → Types (signedDecimal z) l at m next
+unfolding signedDecimal
+signed-above (pos n) t a = a
+signed-above (negsuc n) t a = let e : _≡_ {A = ℕ} 0 1 = cc in absurd (omega arith)
+
+-- ---- a line: key, sign, value, line feed
+
+pub types-line : (key value : List ℕ) {l m q u v : List ℕ} {at sign start end next : ℕ}
+    → Types key l at m sign → Types (61 ∷ []) m sign q start → Types value q start u end → Types (10 ∷ []) u end v next → Types (line key value) l at v next
+unfolding line
+types-line key value a b c d = types-behind a (types-behind b (types-behind c d))

@@ -1,0 +1,98 @@
+// Types the words of the sheet one behind the other into a buffer: each function puts its word at a place and answers the place behind it.
+// Promises: where the buffer has room for a word, its octets and no others are put, numbers in decimal as 01 has them; where it has none, only that nothing
+// is written past the end, so that no caller has to count. Stands on scope's definition of the sheet.
+ghost use mathlib.Core.Path.{_≡_};
+ghost use mathlib.Core.List.{[], _∷_};
+ghost use Prim.Native.Nat.{_+_, _%_};
+ghost use Rattle.scope.specs.Sheet.{digitsOf, decimal, signedDecimal, line};
+ghost use Rattle.text.specs.Typing.{Types};
+
+// One octet. Where there is no room, nothing is put and the place stays.
+pub fn octet(o: u8, at: usize, buf: &mut [u8; 4096]) -> usize
+    ensures { λ r. ⌜ Types (o ∷ []) (now (buf .entry)) at (now (buf .exit)) r ⌝ }
+{
+    if at < 4096 {
+        buf[at] = o;
+        return at + 1;
+    }
+    at
+}
+
+// Octets as they stand, such as a key.
+pub fn word(s: &[u8], at: usize, buf: &mut [u8; 4096]) -> usize
+    ensures { λ r. ⌜ Types (now (s .entry)) (now (buf .entry)) at (now (buf .exit)) r ⌝ }
+{
+    let mut next = at;
+    let mut i: usize = 0;
+    while i < s.len() {
+        next = octet(s[i], next, &mut *buf);
+        i += 1;
+    }
+    next
+}
+
+// The last digit of a number; 48 is the digit 0.
+fn digit(n: u64) -> u8
+    ensures { λ r. ⌜ r ≡ 48 + n % 10 ⌝ }
+{
+    48 + (n % 10) as u8
+}
+
+// At most so many digits of a number: the digits of its tenth come before the last one.
+fn digits(n: u64, most: usize, at: usize, buf: &mut [u8; 4096]) -> usize
+    ensures { λ r. ⌜ Types (digitsOf most n) (now (buf .entry)) at (now (buf .exit)) r ⌝ }
+{
+    if most == 0 {
+        return at;
+    }
+    if n < 10 {
+        return octet(digit(n), at, &mut *buf);
+    }
+    let next = digits(n / 10, most - 1, at, &mut *buf);
+    octet(digit(n), next, &mut *buf)
+}
+
+// A number in decimal.
+pub fn decimal(n: u64, at: usize, buf: &mut [u8; 4096]) -> usize
+    ensures { λ r. ⌜ Types (decimal n) (now (buf .entry)) at (now (buf .exit)) r ⌝ }
+{
+    digits(n, 20, at, &mut *buf)
+}
+
+// A number in decimal, behind a sign if it is below 0. The complement of such a number is one less than its magnitude, and fits for every number.
+pub fn signed(z: i64, at: usize, buf: &mut [u8; 4096]) -> usize
+    ensures { λ r. ⌜ Types (signedDecimal z) (now (buf .entry)) at (now (buf .exit)) r ⌝ }
+{
+    if z < 0 {
+        let next = octet(b'-', at, &mut *buf);
+        return decimal((!z) as u64 + 1, next, &mut *buf);
+    }
+    decimal(z as u64, at, &mut *buf)
+}
+
+// The line feed that ends a line.
+pub fn line_end(at: usize, buf: &mut [u8; 4096]) -> usize
+    ensures { λ r. ⌜ Types (10 ∷ []) (now (buf .entry)) at (now (buf .exit)) r ⌝ }
+{
+    octet(10, at, &mut *buf)
+}
+
+// A line with a key and a number.
+pub fn pair(key: &[u8], n: u64, at: usize, buf: &mut [u8; 4096]) -> usize
+    ensures { λ r. ⌜ Types (line (now (key .entry)) (decimal n)) (now (buf .entry)) at (now (buf .exit)) r ⌝ }
+{
+    let sign = word(key, at, &mut *buf);
+    let value = octet(b'=', sign, &mut *buf);
+    let end = decimal(n, value, &mut *buf);
+    line_end(end, &mut *buf)
+}
+
+// A line with a key and a number that may be below 0.
+pub fn signed_pair(key: &[u8], z: i64, at: usize, buf: &mut [u8; 4096]) -> usize
+    ensures { λ r. ⌜ Types (line (now (key .entry)) (signedDecimal z)) (now (buf .entry)) at (now (buf .exit)) r ⌝ }
+{
+    let sign = word(key, at, &mut *buf);
+    let value = octet(b'=', sign, &mut *buf);
+    let end = signed(z, value, &mut *buf);
+    line_end(end, &mut *buf)
+}
