@@ -1,4 +1,4 @@
-// The constant tables: every chain part and subfield of the papers with its length and spare mask, and where each category keeps its items.
+// The constant tables: every chain part and subfield of the papers with its length and spare mask, the lines of each item, and where each category keeps its items.
 // Promises: the tables say what the papers' data say; a lookup past its table gives an empty row. Stands on layout.
 ghost use mathlib.Core.Path.{_≡_};
 ghost use Rattle.tables.specs.Lines.{placedAt, rowOf, spotAt, spotOf};
