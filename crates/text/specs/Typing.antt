@@ -1,50 +1,96 @@
 -- Words of the sheet put into its buffer by place: what the code of each word promises, and how one goes behind another.
-use mathlib.Core.Path.{_≡_, refl, sym, ap, _∙_, subst}
-use mathlib.Core.Bool.{true, false}
+use mathlib.Core.Path.{_≡_, refl, sym, ap, ap₂, _∙_, subst}
+use mathlib.Core.Bool.{Bool, true, false}
 use mathlib.Core.List.{List, [], _∷_, _++_}
 use Prim.Native.Nat.{ℕ, zero, suc, _+_, _-_, _/_, _%_, _≤_, _<_}
 use native.Mathlib.Nat.{mod-eq-of-lt}
+use native.Mathlib.Numerals.{add-one}
 use native.Mathlib.Omega.{arith}
 use borrow.Author.Tests.{lt-ltb, le-ltb, ltb-true}
+use lib.Dec.{ltb}
 use lib.IntN.{ℤ, pos, negsuc, natAbs}
-use lib.ListN.{length, set, take, drop, getD, length-append}
-use lib.Seq.{sets-eq, take-suc, take-all, take-append-seam}
+use lib.ListN.{length, set, take, drop, getD}
+use lib.Seq.{sets, sets-eq, take-suc, take-all, take-append-seam}
 use lib.Signed.{mag, ltZ}
-use Rattle.codec.specs.Laws.Sets.{Put, put-behind, put-none}
+use Rattle.codec.specs.Pick.{pick}
+use Rattle.codec.specs.Laws.Sets.{Put}
 use Rattle.scope.specs.Sheet.{digitsOf, decimal, signedDecimal, line}
 
--- what typing a word promises: where the buffer has room for it, its octets are put
-pub record Types (xs l : List ℕ) (at : ℕ) (m : List ℕ) (next : ℕ) : Type 0 where
-  pub typed : at + length xs ≤ 4_096 → Put xs l at m next
+-- the buffer has 4,096 octets: what a word leaves in it from a place on, and the place behind it. What has no room is left out
+unfoldable pub typedAt : List ℕ → ℕ → List ℕ → List ℕ
+typedAt l at [] = l
+typedAt l at (x ∷ xs) = pick (ltb at 4_096) (typedAt (set l at x) (at + 1) xs) l
 
--- one word behind another
+unfoldable pub placeAfter : ℕ → List ℕ → ℕ
+placeAfter at [] = at
+placeAfter at (x ∷ xs) = pick (ltb at 4_096) (placeAfter (at + 1) xs) at
+
+-- what typing a word promises
+pub record Types (xs l : List ℕ) (at : ℕ) (m : List ℕ) (next : ℕ) : Type 0 where
+  pub octets : m ≡ typedAt l at xs
+  pub place : next ≡ placeAfter at xs
+
+-- it allows one buffer and one place
+pub one-typing : (xs l : List ℕ) (at : ℕ) {m q : List ℕ} {next last : ℕ} → Types xs l at m next → Types xs l at q last → (m ≡ q) × (next ≡ last)
+one-typing xs l at a b = (a .octets ∙ sym (b .octets), a .place ∙ sym (b .place))
+
+-- ---- one word behind another
+
+-- nothing is typed behind the end
+typed-full : (l : List ℕ) (at : ℕ) (xs : List ℕ) → ltb at 4_096 ≡ false → Types xs l at l at
+unfolding typedAt placeAfter
+typed-full l at [] e = record { octets = refl; place = refl }
+typed-full l at (x ∷ xs) e = record { octets = rw e refl; place = rw e refl }
+
+typed-append : (l : List ℕ) (at : ℕ) (xs ys : List ℕ) → Types (xs ++ ys) l at (typedAt (typedAt l at xs) (placeAfter at xs) ys) (placeAfter (placeAfter at xs) ys)
+unfolding typedAt placeAfter
+typed-append l at [] ys = record { octets = refl; place = refl }
+typed-append l at (x ∷ xs) ys = go (ltb at 4_096) refl (typed-append (set l at x) (at + 1) xs ys)
+  where
+    go : (b : Bool) → ltb at 4_096 ≡ b → Types (xs ++ ys) (set l at x) (at + 1) (typedAt (typedAt (set l at x) (at + 1) xs) (placeAfter (at + 1) xs) ys) (placeAfter (placeAfter (at + 1) xs) ys)
+        → Types (x ∷ xs ++ ys) l at (typedAt (typedAt l at (x ∷ xs)) (placeAfter at (x ∷ xs)) ys) (placeAfter (placeAfter at (x ∷ xs)) ys)
+    go true e ih = record { octets = rw e (ih .octets); place = rw e (ih .place) }
+    go false e ih = let f = typed-full l at ys e in record { octets = rw e (sym (f .octets)); place = rw e (sym (f .place)) }
+
 pub types-behind : {xs ys l m q : List ℕ} {at next last : ℕ} → Types xs l at m next → Types ys m next q last → Types (xs ++ ys) l at q last
-types-behind {xs} {ys} {l} {m} {q} {at} {next} {last} a b = record {
-  typed = λ r.
-      let e : length (xs ++ ys) ≡ length xs + length ys = length-append xs ys in
-      let p : Put xs l at m next = a .typed (omega arith) in
-      let f : next ≡ at + length xs = p .place in
-      put-behind p (b .typed (omega arith));
-}
+types-behind {xs} {ys} {l} {m} {q} {at} {next} {last} a b =
+    let w = typed-append l at xs ys in record {
+      octets = b .octets ∙ ap₂ (λ k i. typedAt k i ys) (a .octets) (a .place) ∙ w .octets;
+      place = b .place ∙ ap (λ i. placeAfter i ys) (a .place) ∙ w .place;
+    }
 
 -- nothing is typed
 pub types-none : (l : List ℕ) (at : ℕ) → Types [] l at l at
-types-none l at = record { typed = λ r. put-none l at }
+unfolding typedAt placeAfter
+types-none l at = record { octets = refl; place = refl }
+
+-- ---- where there is room, the octets are put
+
+typed-put : (xs l : List ℕ) (at : ℕ) → at + length xs ≤ 4_096 → Put xs l at (typedAt l at xs) (placeAfter at xs)
+unfolding typedAt placeAfter
+typed-put [] l at h = record { octets = refl; place = omega arith }
+typed-put (x ∷ xs) l at h =
+    let e : ltb at 4_096 ≡ true = lt-ltb at 4_096 (omega arith) in
+    let ih : Put xs (set l at x) (at + 1) (typedAt (set l at x) (at + 1) xs) (placeAfter (at + 1) xs) = typed-put xs (set l at x) (at + 1) (omega arith) in record {
+      octets = rw e (ih .octets ∙ ap (λ i. sets (set l at x) i xs) (add-one at));
+      place = rw e (ih .place ∙ omega arith);
+    }
 
 -- a text typed from the start of the buffer stands in front of it
 pub typed-front : (xs : List ℕ) → length xs ≤ 4_096 → {l m : List ℕ} {next : ℕ} → length l ≡ 4_096 → Types xs l 0 m next → (next ≡ length xs) × (take next m ≡ xs)
 typed-front xs h {l} {m} {next} k a =
-    let p : Put xs l 0 m next = a .typed (omega arith) in
-    let e : next ≡ length xs = p .place ∙ omega arith in
-    (e, ap (λ j. take j m) e ∙ ap (take (length xs)) (p .octets ∙ sets-eq xs l 0 (omega arith)) ∙ take-append-seam xs (drop (0 + length xs) l))
+    let p : Put xs l 0 (typedAt l 0 xs) (placeAfter 0 xs) = typed-put xs l 0 (omega arith) in
+    let e : next ≡ length xs = a .place ∙ p .place ∙ omega arith in
+    (e, ap (λ j. take j m) e ∙ ap (take (length xs)) (a .octets ∙ p .octets ∙ sets-eq xs l 0 (omega arith)) ∙ take-append-seam xs (drop (0 + length xs) l))
 
 -- ---- the ways out of `octet`
 
-pub octet-there : (o : ℕ) (l : List ℕ) (at : ℕ) → Types (o ∷ []) l at (set l at o) (at + 1)
-octet-there o l at = record { typed = λ r. record { octets = refl; place = refl } }
+pub octet-there : (o : ℕ) (l : List ℕ) (at : ℕ) → at < 4_096 → Types (o ∷ []) l at (set l at o) (at + 1)
+unfolding typedAt placeAfter
+octet-there o l at h = let e : ltb at 4_096 ≡ true = lt-ltb at 4_096 h in record { octets = rw e refl; place = rw e refl }
 
 pub octet-full : (o : ℕ) (l : List ℕ) (at : ℕ) → 4_096 ≤ at → Types (o ∷ []) l at l at
-octet-full o l at h = record { typed = λ r. absurd (omega arith) }
+octet-full o l at h = typed-full l at (o ∷ []) (le-ltb at 4_096 h)
 
 -- ---- the first i octets of a word, and one more
 

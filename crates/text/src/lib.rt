@@ -1,6 +1,6 @@
 // Types the words of the sheet one behind the other into a buffer: each function puts its word at a place and answers the place behind it.
-// Promises: where the buffer has room for a word, its octets and no others are put, numbers in decimal as 01 has them; where it has none, only that nothing
-// is written past the end, so that no caller has to count. Stands on scope's definition of the sheet.
+// Promises: every octet of the buffer and the place, numbers in decimal as 01 has them; what has no room is left out, so that no caller has to count.
+// Stands on scope's definition of the sheet.
 ghost use mathlib.Core.Path.{_≡_};
 ghost use mathlib.Core.List.{[], _∷_};
 ghost use Prim.Native.Nat.{_+_, _%_};

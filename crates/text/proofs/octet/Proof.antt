@@ -8,7 +8,7 @@ use Rattle.text.proofs.octet.Tie as tie
 returns : tie.Need-returns
 returns c =
     let a = c .before .args in
-    octet-there (a .o) (now (a .buf)) (a .at)
+    octet-there (a .o) (now (a .buf)) (a .at) (c .if1 .taken)
 
 returns-2 : tie.Need-returns-2
 returns-2 c =
