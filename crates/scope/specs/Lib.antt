@@ -1,4 +1,4 @@
--- What each operation of 01 answers, a file for each of its sections: reading, writing, views and the choice, the desk, the angle.
+-- What each operation of 01 answers, a file for each of its sections: reading, writing, views and the choice, the desk, the angle, the sheet; and the octets of 01 computed.
 pub mod Reading
 pub mod Writing
 pub mod Views
