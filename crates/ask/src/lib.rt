@@ -1,14 +1,16 @@
 // Takes the requests of the programs apart, and has the output that an operation is asked to write to.
-// Promises to end without a fault, a bound for each count, and the length of the output. Stands on say, for vectors, records and edits alike.
+// Promises: the octets and counts that stand in a request, 0 behind its end, and an output of EE. Stands on say, for vectors, records and edits alike.
 ghost use mathlib.Core.Path.{_≡_};
-ghost use Prim.Native.Nat.{_<_};
-ghost use lib.ListN.{length};
+ghost use Prim.Native.Nat.{_+_, _*_, _<_};
+ghost use lib.ListN.{length, getD, replicate};
 
 // The longest output; the longest field is shorter.
 pub const ROOM: usize = 64;
 
 // 0 behind the last octet, so that no place is a fault.
-pub fn octet_at(octets: &[u8], at: usize) -> u8 {
+pub fn octet_at(octets: &[u8], at: usize) -> u8
+    ensures { λ r. ⌜ r ≡ getD (now (octets .entry)) at 0 ⌝ }
+{
     if at < octets.len() {
         return octets[at];
     }
@@ -16,14 +18,14 @@ pub fn octet_at(octets: &[u8], at: usize) -> u8 {
 }
 
 pub fn count_at(octets: &[u8], at: usize) -> usize
-    ensures { λ r. ⌜ r < 256 ⌝ }
+    ensures { λ r. ⌜ (r ≡ getD (now (octets .entry)) at 0) × (r < 256) ⌝ }
 {
     say::wide(octet_at(octets, at))
 }
 
 // A count of two octets, the high octet first.
 pub fn long_count_at(octets: &[u8], at: usize) -> usize
-    ensures { λ r. ⌜ r < 65536 ⌝ }
+    ensures { λ r. ⌜ (r ≡ getD (now (octets .entry)) at 0 * 256 + getD (now (octets .entry)) (at + 1) 0) × (r < 65536) ⌝ }
 {
     if at < octets.len() {
         return count_at(octets, at) * 256 + count_at(octets, at + 1);
@@ -33,7 +35,7 @@ pub fn long_count_at(octets: &[u8], at: usize) -> usize
 
 // An output that holds no field yet, so that its rest shows, and of a refusal all of it.
 pub fn filled() -> [u8; ROOM]
-    ensures { λ r. ⌜ 64 ≡ length r ⌝ }
+    ensures { λ r. ⌜ (r ≡ replicate 64 0xEE) × (64 ≡ length r) ⌝ }
 {
     [0xEE; ROOM]
 }

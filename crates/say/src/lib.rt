@@ -1,5 +1,6 @@
 // Writes the answers of the operations to standard output, as words of a line: `ok` and what is answered, or `refused` with number and place.
 // Promises to end without a fault; of what is written nothing can be promised. Stands on layout, for edges, vectors, records and edits alike.
+ghost use mathlib.Core.Path.{_≡_};
 ghost use Prim.Native.Nat.{_<_};
 use layout::Answer;
 use layout::Choice;
@@ -179,7 +180,7 @@ pub fn text(words: &[u8]) {
 }
 
 pub fn wide(o: u8) -> usize
-    ensures { λ r. ⌜ r < 256 ⌝ }
+    ensures { λ r. ⌜ (r ≡ o) × (r < 256) ⌝ }
 {
     o as usize
 }

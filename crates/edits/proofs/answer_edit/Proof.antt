@@ -18,7 +18,7 @@ array-borrow-prefix-output c = search needs
 
 slice-aggregate-edit-into : tie.Need-slice-aggregate-edit-into
 slice-aggregate-edit-into c =
-    let e : 64 ≡ length (c .before .before .before .filled .result) = c .before .before .before .filled .ensures in
+    let e : 64 ≡ length (c .before .before .before .filled .result) = c .before .before .before .filled .ensures .1 in
     sym (length-take-le (c .before .before .count-at .result) _ (omega (arith, e, c .before .if1 .taken)))
 
 edit-into-requires : tie.Need-edit-into-requires

@@ -15,7 +15,7 @@ array-borrow-prefix-output c = search needs
 
 slice-aggregate-write-into : tie.Need-slice-aggregate-write-into
 slice-aggregate-write-into c =
-    let e : 64 ≡ length (c .before .before .filled .result) = c .before .before .filled .ensures in
+    let e : 64 ≡ length (c .before .before .filled .result) = c .before .before .filled .ensures .1 in
     sym (length-take-le (c .before .before .before .args .room) _ (omega (arith, e, c .before .if1 .taken)))
 
 write-into-requires : tie.Need-write-into-requires
