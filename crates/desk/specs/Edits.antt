@@ -2,7 +2,7 @@
 use mathlib.Core.Path.{_≡_, refl, sym, ap, ap₂, _∙_, subst, subst₂}
 use mathlib.Core.Bool.{Bool, true, false, _&&_}
 use mathlib.Core.List.{List, [], _∷_, _++_, head-eq-of-cons-eq}
-use Prim.Native.Nat.{ℕ, suc, _+_, _-_, _≤_, _<_}
+use Prim.Native.Nat.{ℕ, zero, suc, _+_, _-_, _≤_, _<_}
 use native.Mathlib.Nat.{le-trans}
 use native.Mathlib.Numerals.{add-one}
 use native.Mathlib.Omega.{arith}
@@ -37,6 +37,69 @@ use Rattle.reader.specs.Surveys.{startsFrom, surveyed, surveyOf, begins, ends}
 use Rattle.desk.specs.Asking.{askedOf, asked-right, isAccepted, rightOf}
 use Rattle.desk.specs.Splicing.{spliceOf, splice-afresh}
 
+-- ---- the refusals before the octets are looked at
+
+abbrev withNumber : ℕ → Surveyed → Surveyed
+withNumber zero v = v
+withNumber (suc n) v = record { answer = Refused (suc n) 0; items = v .items; starts = v .starts }
+
+abbrev allowedBy : ℕ → Surveyed → Answer → Surveyed
+allowedBy m v (Accepted n) = withNumber m v
+allowedBy m v (Refused n p) = v
+
+-- what a survey tells, with 12 or 13 as the answer of a field that is right
+unfoldable pub allowedOf : ℕ → List ℕ → ℕ → ℕ → Surveyed
+allowedOf cat s list item = allowedBy (askedOf cat list item) (surveyOf cat s) (surveyOf cat s .answer)
+
+-- the ways out of `allowed`
+module _ (cat : ℕ) (s : List ℕ) (list item : ℕ) {v : Surveyed} (ev : v ≡ surveyOf cat s) where
+  by-answer : {a : Answer} → v .answer ≡ a → allowedOf cat s list item ≡ allowedBy (askedOf cat list item) v a
+  unfolding allowedOf
+  by-answer ea = ap₂ (λ x y. allowedBy (askedOf cat list item) x y) (sym ev) (ap (λ (x : Surveyed). x .answer) (sym ev) ∙ ea)
+
+  pub allowed-refused : {n p : ℕ} → v .answer ≡ Refused n p → v ≡ allowedOf cat s list item
+  allowed-refused ea = sym (by-answer ea)
+
+  module _ {n : ℕ} (ea : v .answer ≡ Accepted n) {no : ℕ} (eno : no ≡ askedOf cat list item) where
+    by-number : allowedOf cat s list item ≡ withNumber no v
+    by-number = by-answer ea ∙ ap (λ m. withNumber m v) (sym eno)
+
+    pub allowed-yes : no ≡ 0 → v ≡ allowedOf cat s list item
+    allowed-yes z = sym (by-number ∙ ap (λ m. withNumber m v) z)
+
+    pub allowed-no : (no ≡ 0 → ⊥) → _≡_ {A = Surveyed} (record { answer = Refused no 0; items = v .items; starts = v .starts }) (allowedOf cat s list item)
+    allowed-no h = go no h ∙ sym by-number
+      where
+        go : (m : ℕ) → (m ≡ 0 → ⊥) → _≡_ {A = Surveyed} (record { answer = Refused m 0; items = v .items; starts = v .starts }) (withNumber m v)
+        go zero h = absurd (h refl)
+        go (suc m) h = refl
+
+-- the first len octets of a field with the octets of an item exchanged for t, and the indicator n
+unfoldable pub exchangeOf : ℕ → List ℕ → ℕ → List ℕ → ℕ → List ℕ → List ℕ
+exchangeOf n f len starts item t = spliceOf n (take len f) (getD starts (item - 1) 0) (getD starts item 0) t
+
+-- the item stands in the field, and the field that comes of it has a LEN
+pub record Exchangeable (f : List ℕ) (len : ℕ) (starts : List ℕ) (item : ℕ) (t : List ℕ) : Type 0 where
+  pub low : 1 ≤ item
+  pub high : item < 9
+  pub within : len ≤ length f
+  pub whole : length (take len f) ≡ len
+  pub parts : (2 ≤ getD starts (item - 1) 0) × (getD starts (item - 1) 0 ≤ getD starts item 0) × (getD starts item 0 ≤ length (take len f))
+      × (getD starts (item - 1) 0 + length t + (length (take len f) - getD starts item 0) ≤ 255)
+
+-- the way out of `exchanged`: w is the item's number
+module _ (f : List ℕ) (len : ℕ) (starts : List ℕ) (item : ℕ) (t : List ℕ) {w : ℕ} (ew : w ≡ item) where
+  pub exchange-parts : Exchangeable f len starts item t → (2 ≤ getD starts (w - 1) 0) × (getD starts (w - 1) 0 ≤ getD starts w 0) × (getD starts w 0 ≤ length (take len f))
+      × (getD starts (w - 1) 0 + length t + (length (take len f) - getD starts w 0) ≤ 255)
+  exchange-parts x =
+      subst (λ i. (2 ≤ getD starts (i - 1) 0) × (getD starts (i - 1) 0 ≤ getD starts i 0) × (getD starts i 0 ≤ length (take len f))
+      × (getD starts (i - 1) 0 + length t + (length (take len f) - getD starts i 0) ≤ 255)) (sym ew) (x .parts)
+
+  pub exchange-leaves : (n : ℕ) {out out′ : List ℕ} {a : Answer} → Leaves (withRoom (length out) (spliceOf n (take len f) (getD starts (w - 1) 0) (getD starts w 0) t)) out a out′
+      → Leaves (withRoom (length out) (exchangeOf n f len starts item t)) out a out′
+  unfolding exchangeOf
+  exchange-leaves n {out} {out′} {a} l = subst (λ i. Leaves (withRoom (length out) (spliceOf n (take len f) (getD starts (i - 1) 0) (getD starts i 0) t)) out a out′) ew l
+
 module _ (cat : ℕ) (s : List ℕ) {v : Surveyed} (ev : v ≡ surveyOf cat s) where
   -- "A refusal of the field is the answer, with its number and place"
   pub edit-refused : {n p : ℕ} → v .answer ≡ Refused n p → (list item : ℕ) (ch : Change) (room : ℕ) → editOf cat s list item ch room ≡ refused n p
@@ -62,6 +125,13 @@ module _ (cat : ℕ) (s : List ℕ) {v : Surveyed} (ev : v ≡ surveyOf cat s) w
       go true eb (accepted r) eo w h = record { read = read-made cat s r eb eo; len-is = cc; items-are = ap (λ (x : Surveyed). x .items) w; starts-are = ap (λ (x : Surveyed). x .starts) w }
       go true eb (refused m q) eo w h = Refused≢Accepted h
       go false eb o eo w h = Refused≢Accepted h
+
+-- the field stands in the slice
+pub len-within : (cat : ℕ) (s : List ℕ) → Octets s → {v : Surveyed} → v ≡ surveyOf cat s → {n : ℕ} → v .answer ≡ Accepted n → (n ≤ length s) × (length (take n s) ≡ n)
+len-within cat s os ev {n} ea =
+    let f = edit-found cat s ev ea in
+    let l : length (take n s) ≡ n = ap (λ m. length (take m s)) (f .len-is) ∙ front-length (paperOf cat) s (f .read .what) (read-front os (f .read)) ∙ sym (f .len-is) in
+    (omega (arith, length-take n s, l), l)
 
 -- ---- the field was accepted
 
@@ -180,25 +250,46 @@ module _ (cat : ℕ) (s : List ℕ) {v : Surveyed} (ev : v ≡ surveyOf cat s) {
           let e : getD (v .starts) (item - 1) 0 + length (newOctets ch) + (length (take n s) - getD (v .starts) (suc (item - 1)) 0) ≡ length (writeFrame (body (paperOf cat)) q) = head-eq-of-cons-eq afresh-is in
           (omega arith, omega arith, omega arith, omega arith)
 
-      -- the same with the item's number as code has it
-      module _ {w : ℕ} (ew : w ≡ item) where
-        same-next : suc (item - 1) ≡ w - 1 + 1
-        same-next = ap (λ j. suc (j - 1)) (sym ew) ∙ sym (add-one (w - 1))
+      same-item : suc (item - 1) ≡ item
+      same-item = let l = item-low .0 in omega (arith, l)
 
-        pub edit-made : {ind : ℕ} → ind ≡ setFlag (v .items) (w - 1) (newFlag ch) → {out out′ : List ℕ} {a : Answer}
-            → Leaves (withRoom (length out) (spliceOf ind (take n s) (getD (v .starts) (w - 1) 0) (getD (v .starts) (w - 1 + 1) 0) (newOctets ch))) out a out′ → Edited cat s list item ch out a out′
-        edit-made ei l =
-            edit-spliced (ei ∙ ap (λ j. setFlag (v .items) (j - 1) (newFlag ch)) ew) (ap (λ j. getD (v .starts) (j - 1) 0) ew) (ap (λ j. getD (v .starts) j 0) (sym same-next)) l
+      -- as the code asks it, and has it
+      pub exchange-asks : Exchangeable s n (v .starts) item (newOctets ch)
+      exchange-asks =
+          let w = len-within cat s os ev ea in record {
+            low = item-low .0;
+            high = let l = item-low in omega (arith, l);
+            within = w .0;
+            whole = w .1;
+            parts = subst (λ k. (2 ≤ getD (v .starts) (item - 1) 0) × (getD (v .starts) (item - 1) 0 ≤ getD (v .starts) k 0) × (getD (v .starts) k 0 ≤ length (take n s))
+                × (getD (v .starts) (item - 1) 0 + length (newOctets ch) + (length (take n s) - getD (v .starts) k 0) ≤ 255)) same-item splice-asks;
+          }
 
-        pub made-asks : (2 ≤ getD (v .starts) (w - 1) 0) × (getD (v .starts) (w - 1) 0 ≤ getD (v .starts) (w - 1 + 1) 0) × (getD (v .starts) (w - 1 + 1) 0 ≤ length (take n s))
-            × (getD (v .starts) (w - 1) 0 + length (newOctets ch) + (length (take n s) - getD (v .starts) (w - 1 + 1) 0) ≤ 255)
-        made-asks =
-            subst₂ (λ j k. (2 ≤ getD (v .starts) (j - 1) 0) × (getD (v .starts) (j - 1) 0 ≤ getD (v .starts) k 0) × (getD (v .starts) k 0 ≤ length (take n s))
-            × (getD (v .starts) (j - 1) 0 + length (newOctets ch) + (length (take n s) - getD (v .starts) k 0) ≤ 255)) (sym ew) same-next splice-asks
+      pub edit-made : {ind : ℕ} → ind ≡ setFlag (v .items) (item - 1) (newFlag ch) → {out out′ : List ℕ} {a : Answer}
+          → Leaves (withRoom (length out) (exchangeOf ind s n (v .starts) item (newOctets ch))) out a out′ → Edited cat s list item ch out a out′
+      unfolding exchangeOf
+      edit-made ei l = edit-spliced ei refl (ap (λ j. getD (v .starts) j 0) (sym same-item)) l
 
--- the field stands in the slice
-pub len-within : (cat : ℕ) (s : List ℕ) → Octets s → {v : Surveyed} → v ≡ surveyOf cat s → {n : ℕ} → v .answer ≡ Accepted n → (n ≤ length s) × (length (take n s) ≡ n)
-len-within cat s os ev {n} ea =
-    let f = edit-found cat s ev ea in
-    let l : length (take n s) ≡ n = ap (λ m. length (take m s)) (f .len-is) ∙ front-length (paperOf cat) s (f .read .what) (read-front os (f .read)) ∙ sym (f .len-is) in
-    (omega (arith, length-take n s, l), l)
+-- ---- what is allowed: the refusal is the edit's, and a field that is allowed was accepted and asked for rightly
+
+module _ (cat : ℕ) (s : List ℕ) (list item : ℕ) {w : Surveyed} (ew : w ≡ allowedOf cat s list item) where
+  pub allowed-found : {n : ℕ} → w .answer ≡ Accepted n → (w ≡ surveyOf cat s) × (askedOf cat list item ≡ 0)
+  unfolding allowedOf
+  allowed-found {n} e = go (surveyOf cat s .answer) refl (askedOf cat list item) ew (ap (λ (x : Surveyed). x .answer) (sym ew) ∙ e)
+    where
+      go : (a : Answer) → surveyOf cat s .answer ≡ a → (m : ℕ) → w ≡ allowedBy m (surveyOf cat s) a → (allowedBy m (surveyOf cat s) a) .answer ≡ Accepted n → (w ≡ surveyOf cat s) × (m ≡ 0)
+      go (Accepted k) ea zero x h = (x, refl)
+      go (Accepted k) ea (suc m) x h = Refused≢Accepted h
+      go (Refused k p) ea m x h = Refused≢Accepted (sym ea ∙ h)
+
+  pub allowed-fell : {n p : ℕ} → w .answer ≡ Refused n p → (ch : Change) (room : ℕ) → editOf cat s list item ch room ≡ refused n p
+  unfolding allowedOf
+  allowed-fell {n} {p} e ch room = go (surveyOf cat s .answer) refl (askedOf cat list item) refl (ap (λ (x : Surveyed). x .answer) (sym ew) ∙ e)
+    where
+      go : (a : Answer) → surveyOf cat s .answer ≡ a → (m : ℕ) → m ≡ askedOf cat list item → (allowedBy m (surveyOf cat s) a) .answer ≡ Refused n p → editOf cat s list item ch room ≡ refused n p
+      go (Accepted k) ea zero em h = Accepted≢Refused (sym ea ∙ h)
+      go (Accepted k) ea (suc m) em h =
+          let a1 : suc m ≡ n = cc in
+          let a2 : 0 ≡ p = cc in
+          edit-unasked cat s refl ea list item ch room em (λ z. omega arith) ∙ ap₂ refused a1 a2
+      go (Refused k q) ea m em h = edit-refused cat s refl h list item ch room

@@ -12,7 +12,9 @@ ghost use Rattle.promises.specs.Outputs.{Leaves};
 ghost use Rattle.promises.specs.Edited.{Edited};
 ghost use Rattle.desk.specs.Asking.{askedOf, acceptedIs, rightOf};
 ghost use Rattle.desk.specs.Splicing.{spliceOf};
+ghost use Rattle.desk.specs.Edits.{allowedOf, Exchangeable, exchangeOf};
 use layout::Answer;
+use reader::Surveyed;
 
 fn wide(o: u8) -> usize
     ensures { λ r. ⌜ r ≡ o ⌝ }
@@ -108,57 +110,84 @@ fn spliced(field: &[u8], items: u8, from: usize, to: usize, new: &[u8], out: &mu
     writer::deliver(&octets[..n], &mut *out)
 }
 
+// Where the items of a field stand, with the refusal of the field, 12 or 13 as the answer where there is one.
+fn allowed(cat: u8, field: &[u8], list: u8, item: u8) -> Surveyed
+    ensures { λ r. ⌜ r ≡ allowedOf cat (now (field .entry)) list item ⌝ }
+{
+    let found = reader::survey(cat, field);
+    let a = found.answer;
+    let Answer::Accepted(_) = a else {
+        return found;
+    };
+    let no = asked(cat, list, item);
+    if no == 0 {
+        return found;
+    }
+    let starts = found.starts;
+    Surveyed {
+        answer: Answer::Refused(no, 0),
+        items: found.items,
+        starts: starts,
+    }
+}
+
+// The first len octets of a field with the octets of an item exchanged, and another indicator.
+fn exchanged(
+    field: &[u8],
+    len: usize,
+    starts: [usize; 9],
+    item: u8,
+    items: u8,
+    new: &[u8],
+    out: &mut [u8],
+) -> Answer
+    requires { ⌜ Exchangeable (now field) len starts item (now new) ⌝ }
+    ensures { λ r. ⌜ Leaves (withRoom (length (now (out .entry))) (exchangeOf items (now (field .entry)) len starts item (now (new .entry)))) (now (out .entry)) r (now (out .exit)) ⌝ }
+{
+    let i = wide(item);
+    let from = starts[i - 1];
+    let to = starts[i];
+    spliced(&field[..len], items, from, to, new, &mut *out)
+}
+
+// The index of an item; items are counted from 1.
+fn index(item: u8) -> usize
+    ensures { λ r. ⌜ r ≡ item - 1 ⌝ }
+{
+    if 0 < item {
+        return wide(item) - 1;
+    }
+    0
+}
+
 // An item removed; an absent one leaves the field itself.
 pub fn remove(cat: u8, field: &[u8], list: u8, item: u8, out: &mut [u8]) -> Answer
     ensures { λ r. ⌜ Edited cat (now (field .entry)) list item remove (now (out .entry)) r (now (out .exit)) ⌝ }
 {
-    let found = reader::survey(cat, field);
+    let found = allowed(cat, field, list, item);
     let a = found.answer;
     let Answer::Accepted(len) = a else {
         return a;
     };
-    let no = asked(cat, list, item);
-    if no == 0 {
-        let i = wide(item) - 1;
-        let starts = found.starts;
-        let items = layout::without_item(found.items, i);
-        return spliced(
-            &field[..len],
-            items,
-            starts[i],
-            starts[i + 1],
-            &field[..0],
-            &mut *out,
-        );
-    }
-    Answer::Refused(no, 0)
+    let starts = found.starts;
+    let items = layout::without_item(found.items, index(item));
+    exchanged(field, len, starts, item, items, &field[..0], &mut *out)
 }
 
 // An item replaced by new octets, or added.
 pub fn replace(cat: u8, field: &[u8], list: u8, item: u8, new: &[u8], out: &mut [u8]) -> Answer
     ensures { λ r. ⌜ Edited cat (now (field .entry)) list item (put (now (new .entry))) (now (out .entry)) r (now (out .exit)) ⌝ }
 {
-    let found = reader::survey(cat, field);
+    let found = allowed(cat, field, list, item);
     let a = found.answer;
     let Answer::Accepted(len) = a else {
         return a;
     };
-    let no = asked(cat, list, item);
-    if no == 0 {
-        let i = wide(item) - 1;
-        if right(cat, i, new) {
-            let starts = found.starts;
-            let items = layout::with_item(found.items, i);
-            return spliced(
-                &field[..len],
-                items,
-                starts[i],
-                starts[i + 1],
-                new,
-                &mut *out,
-            );
-        }
-        return Answer::Refused(14, 0);
+    let i = index(item);
+    if right(cat, i, new) {
+        let starts = found.starts;
+        let items = layout::with_item(found.items, i);
+        return exchanged(field, len, starts, item, items, new, &mut *out);
     }
-    Answer::Refused(no, 0)
+    Answer::Refused(14, 0)
 }
