@@ -3,9 +3,10 @@
 use mathlib.Core.Bool.{Bool, true, false, _&&_}
 use mathlib.Core.List.{List, [], _∷_, _++_}
 use Prim.Native.Nat.{ℕ, zero, suc, _+_, _-_}
-use lib.Dec.{leb, eqb}
+use lib.Dec.{ltb, leb, eqb}
 use lib.IntN.{ℤ, pos}
-use lib.ListN.{length, take, drop, replicate}
+use lib.ListN.{length, getD, take, drop, replicate}
+use Rattle.codec.specs.Pick.{pick}
 use Rattle.codec.specs.Codec.{Codec, via}
 use Rattle.codec.specs.Line.{Held}
 use Rattle.codec.specs.Item.{Item, slots, zeros}
@@ -63,3 +64,7 @@ fitsPaper c its f =
 -- what follows LEN in a field of a category, as a record
 unfoldable pub contents : ℕ → Codec Record
 contents c = via (flatten c (paperOf c)) (unflatten (paperOf c)) (fitsPaper c (paperOf c)) (body (paperOf c))
+
+-- the number in a slot of the record, 0 past the last
+unfoldable pub numberAt : List ℤ → ℕ → ℤ
+numberAt l slot = pick (ltb slot 77) (getD l slot (pos 0)) (pos 0)

@@ -7,6 +7,7 @@ ghost use lib.ListN.{getD};
 ghost use Rattle.codec.specs.Field.{flags};
 ghost use Rattle.codec.specs.Change.{setFlag};
 ghost use Rattle.layout.specs.Papers.{known, itemsOf, longestOf};
+ghost use Rattle.layout.specs.Record.{numberAt};
 
 // What a field reads to. `items` is laid out as the indicator, `parts` has the parts of each item's chain, `numbers` every
 // number at its slot, in the order of the layout; zero where something is absent, zero behind the last.
@@ -150,4 +151,14 @@ pub fn without_item(items: u8, i: usize) -> u8
         }
     }
     items
+}
+
+// The number in a slot of the record, 0 past the last.
+pub fn number_at(numbers: &[i32; 77], slot: usize) -> i32
+    ensures { λ r. ⌜ r ≡ numberAt (now (numbers .entry)) slot ⌝ }
+{
+    if slot < 77 {
+        return numbers[slot];
+    }
+    0
 }

@@ -4,3 +4,4 @@ pub mod Rows
 pub mod Mask
 pub mod Shapes
 pub mod Spots
+pub mod Runs

@@ -3,9 +3,11 @@ use mathlib.Core.Bool.{Bool, true, _&&_}
 use mathlib.Core.List.{List, [], _∷_}
 use Prim.Native.Nat.{ℕ, zero, suc, _+_}
 use lib.Dec.{ltb, leb, eqb}
-use lib.ListN.{length, getD}
-use Rattle.codec.specs.Line.{Line}
+use lib.IntN.{ℤ}
+use lib.ListN.{length, getD, take, drop}
+use Rattle.codec.specs.Line.{Line, Held}
 use Rattle.codec.specs.Item.{Item, chained, single, slots, linesOf}
+use Rattle.layout.specs.Record.{regroup}
 use Rattle.tables.specs.Lines.{items, lineAt, firstAt, countAt, itemAt, spotAt}
 use Rattle.tables.specs.declared.Shape.{Shape}
 
@@ -73,3 +75,12 @@ rowOk k (suc (suc n)) = spotOk k && (eqb (spotAt (k + 1) .1) (spotAt k .1 + slot
 unfoldable pub itemsFrom : ℕ → ℕ → List Item
 itemsFrom k zero = []
 itemsFrom k (suc n) = itemOn k ∷ itemsFrom (k + 1) n
+
+-- the numbers of the item at a spot, among the slots of a record
+unfoldable pub numbersOn : ℕ → List ℤ → List ℤ
+numbersOn k ns = take (slots (itemOn k)) (drop (spotAt k .1) ns)
+
+-- what left items from spot k on hold, the first of them having index i
+unfoldable pub heldFrom : ℕ → ℕ → ℕ → List ℕ → List ℤ → List Held
+unfolding itemsFrom regroup
+heldFrom k left i ps ns = regroup (itemsFrom k left) (drop i ps) (drop (spotAt k .1) ns)

@@ -14,26 +14,14 @@ use Rattle.codec.specs.Line.{Line, Held, count, line}
 use Rattle.codec.specs.Item.{slotsOf, nothing, beside, fxOf, chain, isOne, flagged, subfields, item}
 use Rattle.codec.specs.Laws.Tests.{and-l, and-r}
 use Rattle.codec.specs.Laws.Item.{chain-length}
+use Rattle.layout.specs.Record.{numberAt}
+use Rattle.layout.specs.Laws.Slots.{Holds, holds-take, holds-drop}
 use Rattle.tables.specs.declared.Shape.{Shape}
 use Rattle.tables.specs.Lines.{lineAt, firstAt, countAt, itemAt}
 use Rattle.tables.specs.Shapes.{linesFrom, flagsUnder, itemOf, inTurn, shapeAt}
+use Rattle.tables.specs.Laws.Runs.{lines-on}
 use Rattle.tables.specs.Laws.Shapes.{Shaped, shaped-well, shape-single, shape-chained}
-use Rattle.writer.specs.Digits.{numberAt, Holds, holds-take, holds-drop}
 use Rattle.writer.specs.Laying.{Lays, lays-via, lays-guard, lays-there, lays-none, lays-absent, lays-beside}
-
--- ---- lines in turn
-
-pub turn-rest : (b left : ℕ) → (left ≡ 0 → ⊥) → T (inTurn b left) → T (inTurn (b + 1) (left - 1))
-unfolding inTurn
-turn-rest b zero h t = absurd (h refl)
-turn-rest b (suc zero) h t = tt
-turn-rest b (suc (suc n)) h t = let e : suc (suc n) - 1 ≡ suc n = omega arith in rw e (and-r (eqb (firstAt (b + 1)) (firstAt b + countAt b)) _ t)
-
-pub turn-first : (b left : ℕ) → (left - 1 ≡ 0 → ⊥) → T (inTurn b left) → firstAt (b + 1) ≡ firstAt b + countAt b
-unfolding inTurn
-turn-first b zero h t = absurd (h refl)
-turn-first b (suc zero) h t = absurd (h refl)
-turn-first b (suc (suc n)) h t = eqb→eq (firstAt (b + 1)) (firstAt b + countAt b) (and-l (eqb (firstAt (b + 1)) (firstAt b + countAt b)) _ t)
 
 -- ---- the ways out of `chain`
 
@@ -175,7 +163,7 @@ module _ (k : ℕ) {s : Shape} (es : s ≡ shapeAt k) where
     item-chained z h {q} {last} g zs hz =
         let p : Line = lineAt (s .0) in
         let qs : List Line = linesFrom (s .0 + 1) (s .1 - 1) in
-        let parts : linesFrom (s .0) (s .1) ≡ p ∷ qs = first-line (s .0) (s .1) z in
+        let parts : linesFrom (s .0) (s .1) ≡ p ∷ qs = lines-on (s .0) (s .1) z in
         let c : ℕ = slotsOf (p ∷ qs) in
         let behind : s .0 + 1 + (s .1 - 1) ≡ s .0 + s .1 = omega arith in
         let ss : List Line = linesFrom (s .0 + 1 + (s .1 - 1)) (s .2) in
@@ -187,7 +175,3 @@ module _ (k : ℕ) {s : Shape} (es : s ≡ shapeAt k) where
         subst (λ j. Lays (subfields (take c zs) (linesFrom j (s .2))) (0, drop c zs) m next q last) (sym behind)
         (g (take c zs) (drop c zs) (holds-take c hz) (subst (λ j. T (flagsUnder j (linesFrom (s .0 + s .1) (s .2)))) (sym long) (well .flags-under))
         (λ some. holds-drop c (ap (base +_) (well .meet some ∙ ap slotsOf parts)) hz)))))
-      where
-        first-line : (b p : ℕ) → (p ≡ 0 → ⊥) → linesFrom b p ≡ lineAt b ∷ linesFrom (b + 1) (p - 1)
-        first-line b zero z = absurd (z refl)
-        first-line b (suc p) z = let e : p ≡ suc p - 1 = omega arith in ap (λ i. lineAt b ∷ linesFrom (b + 1) i) e

@@ -7,16 +7,15 @@ use native.Mathlib.Nat.{mod-lt, mod-eq-of-lt}
 use native.Mathlib.Omega.{arith}
 use lib.Dec.{T, ltb, eqb, ltb→lt, lt→ltb}
 use lib.IntN.{ℤ, pos, negsuc}
-use lib.ListN.{length, getD, take, drop, length-take, length-drop}
 use lib.Pow.{pow-pos}
-use lib.Seq.{getD-take, getD-drop}
-use borrow.Author.Tests.{lt-ltb, le-ltb, eqb-true, eqb-false}
-use Rattle.codec.specs.Pick.{pick}
+use borrow.Author.Tests.{eqb-true, eqb-false}
 use Rattle.codec.specs.Signed.{ofSigned, inSigned}
 use Rattle.codec.specs.Radix.{total, join, digits}
 use Rattle.codec.specs.Line.{Kind, plain, signed, limited, Piece, spare, num, ofNum, inNum, widths, unnums, fitNums}
 use Rattle.codec.specs.Laws.Tests.{and-in, and-l, and-r}
 use Rattle.codec.specs.Laws.Radix.{join-lt}
+use Rattle.layout.specs.Record.{numberAt}
+use Rattle.layout.specs.Laws.Slots.{Holds, holds-drop}
 use Rattle.tables.specs.Lines.{piecesFrom}
 use Rattle.tables.specs.Laws.Rows.{more-spare, more-num}
 
@@ -49,43 +48,6 @@ low-of plain w (pos n) t = mod-eq-of-lt (ltb→lt n (2 ^ w) t)
 low-of plain w (negsuc n) t = absurd t
 low-of signed w z t = low-signed w z t
 low-of (limited lo hi) w z t = low-signed w z t
-
--- ---- the slots of a record
-
--- a slot, 0 past the last
-unfoldable pub numberAt : List ℤ → ℕ → ℤ
-numberAt l slot = pick (ltb slot 77) (getD l slot (pos 0)) (pos 0)
-
-pub slot-there : (l : List ℤ) (slot : ℕ) → slot < 77 → getD l slot (pos 0) ≡ numberAt l slot
-unfolding numberAt
-slot-there l slot h = rw (lt-ltb slot 77 h) refl
-
-pub slot-past : (l : List ℤ) (slot : ℕ) → 77 ≤ slot → pos 0 ≡ numberAt l slot
-unfolding numberAt
-slot-past l slot h = rw (le-ltb slot 77 h) refl
-
--- the numbers zs stand in the slots from slot on
-pub record Holds (l : List ℤ) (slot : ℕ) (zs : List ℤ) : Type 0 where
-  pub number : (i : ℕ) → i < length zs → numberAt l (slot + i) ≡ getD zs i (pos 0)
-
-pub holds-item : (l : List ℤ) (slot n : ℕ) → slot + n ≤ 77 → Holds l slot (take n (drop slot l))
-holds-item l slot n h = record {
-  number = λ i k.
-      let lt : i < n = omega (arith, length-take n (drop slot l), k) in
-      sym (slot-there l (slot + i) (omega arith)) ∙ sym (getD-take n (drop slot l) i (pos 0) lt ∙ getD-drop slot l i (pos 0));
-}
-
-pub holds-take : {l : List ℤ} {slot : ℕ} {zs : List ℤ} (n : ℕ) → Holds l slot zs → Holds l slot (take n zs)
-holds-take {zs = zs} n h = record {
-  number = λ i k. h .number i (omega (arith, length-take n zs, k)) ∙ sym (getD-take n zs i (pos 0) (omega (arith, length-take n zs, k)));
-}
-
-pub holds-drop : {l : List ℤ} {slot : ℕ} {zs : List ℤ} (n : ℕ) {next : ℕ} → next ≡ slot + n → Holds l slot zs → Holds l next (drop n zs)
-holds-drop {l} {slot} {zs} n {next} e h = record {
-  number = λ i k.
-      let q : next + i ≡ slot + (n + i) = omega arith in
-      ap (numberAt l) q ∙ h .number (n + i) (omega (arith, length-drop n zs, k)) ∙ sym (getD-drop n zs i (pos 0));
-}
 
 -- ---- the digits of the pieces, 0 for a spare
 

@@ -23,11 +23,10 @@ use Rattle.layout.specs.Record.{regroup, unflatten, fitsPaper, contents}
 use Rattle.layout.specs.Laws.Papers.{few-items, few-octets}
 use Rattle.scope.specs.Writing.{writable, written}
 use Rattle.tables.specs.Lines.{spotAt, spotOf}
-use Rattle.tables.specs.Shapes.{rowOk, itemsFrom}
+use Rattle.tables.specs.Shapes.{rowOk, itemsFrom, heldFrom}
 use Rattle.tables.specs.Laws.Spots.{Spots, spots-right}
 use Rattle.writer.specs.Laying.{Lays}
 use Rattle.codec.specs.Laws.Sets.{Put}
-use Rattle.writer.specs.Rows.{heldFrom}
 
 -- the record of the four values that `lay` takes
 abbrev pub made : ℕ → ℕ → List ℕ → List ℤ → Record

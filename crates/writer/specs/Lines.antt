@@ -22,7 +22,8 @@ use Rattle.tables.specs.declared.Row.{Row}
 use Rattle.tables.specs.Lines.{placedAt, lineAt, firstAt, piecesFrom, rowOf}
 use Rattle.tables.specs.Laws.Lines.{line-filled}
 use Rattle.tables.specs.Laws.Rows.{row-octets, row-pieces, row-fx, row-first}
-use Rattle.writer.specs.Digits.{Holds, gathered, gathered-lt, gathered-are}
+use Rattle.layout.specs.Laws.Slots.{Holds}
+use Rattle.writer.specs.Digits.{gathered, gathered-lt, gathered-are}
 use Rattle.writer.specs.Laying.{Lays}
 
 -- ---- the ways out of `spill`

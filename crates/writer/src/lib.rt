@@ -13,15 +13,15 @@ ghost use Rattle.codec.specs.Line.{line};
 ghost use Rattle.codec.specs.Item.{nothing, isOne, flagged, chain, subfields, item};
 ghost use Rattle.codec.specs.Field.{flags, row};
 ghost use Rattle.layout.specs.Papers.{known};
+ghost use Rattle.layout.specs.Laws.Slots.{Holds};
 ghost use Rattle.tables.specs.Lines.{lineAt, firstAt, countAt, itemAt};
-ghost use Rattle.tables.specs.Shapes.{linesFrom, flagsUnder, inTurn, spotOk, rowOk, itemsFrom};
+ghost use Rattle.tables.specs.Shapes.{linesFrom, flagsUnder, inTurn, spotOk, rowOk, itemsFrom, numbersOn, heldFrom};
 ghost use Rattle.scope.specs.Writing.{withRoom};
 ghost use Rattle.promises.specs.Outputs.{Leaves};
 ghost use Rattle.promises.specs.RoundTrips.{Wrote};
-ghost use Rattle.writer.specs.Digits.{Holds};
 ghost use Rattle.writer.specs.Laying.{Lays};
 ghost use Rattle.writer.specs.Chains.{goesOn};
-ghost use Rattle.writer.specs.Rows.{placeOn, numbersOn, heldFrom};
+ghost use Rattle.writer.specs.Rows.{placeOn};
 ghost use Rattle.writer.specs.Same.{Tells};
 ghost use Rattle.writer.specs.Checked.{Checked, ReadBack};
 ghost use Rattle.writer.specs.Frames.{made, Laid};
@@ -81,7 +81,7 @@ fn subfield(numbers: &[i32; 77], b: usize, base: usize, at: usize, octets: &mut 
     ensures { λ r. ⌜ ((zs us : List ℤ) → Holds (now (numbers .entry)) base zs → T (ltb (lineAt b .flag) (length zs)) → Holds (now (numbers .entry)) (base + firstAt b) us → Lays (opt (nothing (countAt b)) (flagged zs (lineAt b)) (line (lineAt b))) (0, us) (now (octets .entry)) at (now (octets .exit)) r) ⌝ }
 {
     let row = tables::row_of(b);
-    let z = lines::number_at(numbers, base + row.6);
+    let z = layout::number_at(numbers, base + row.6);
     if is_one(z) {
         return lines::line(numbers, b, base, 0, at, &mut *octets);
     }

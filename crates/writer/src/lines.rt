@@ -9,18 +9,9 @@ ghost use lib.Seq.{sets};
 ghost use Rattle.codec.specs.Radix.{total, cut, eights};
 ghost use Rattle.codec.specs.Line.{widths, line};
 ghost use Rattle.tables.specs.Lines.{lineAt, firstAt, piecesFrom};
-ghost use Rattle.writer.specs.Digits.{lowBits, numberAt, Holds, gathered};
+ghost use Rattle.layout.specs.Laws.Slots.{Holds};
+ghost use Rattle.writer.specs.Digits.{lowBits, gathered};
 ghost use Rattle.writer.specs.Laying.{Lays};
-
-// A slot of the record, 0 past the last.
-pub fn number_at(numbers: &[i32; 77], slot: usize) -> i32
-    ensures { λ r. ⌜ r ≡ numberAt (now (numbers .entry)) slot ⌝ }
-{
-    if slot < 77 {
-        return numbers[slot];
-    }
-    0
-}
 
 fn power(w: u64) -> u64
     requires { ⌜ w < 64 ⌝ }
@@ -54,7 +45,7 @@ fn gather(numbers: &[i32; 77], bits: u64, code: u64, left: usize, slot: usize) -
     if code % 256 / 32 == 0 {
         return gather(numbers, next, code / 256, left - 1, slot);
     }
-    let d = digit(number_at(numbers, slot), w);
+    let d = digit(layout::number_at(numbers, slot), w);
     let low = gather(numbers, next, code / 256, left - 1, slot + 1);
     d * power(next) + low
 }

@@ -7,7 +7,8 @@ use denote.Ref.{now}
 use lib.ListN.{drop}
 use mir.Facts.{fits-of-lt}
 use Rattle.codec.specs.Field.{flags}
-use Rattle.writer.specs.Rows.{row-end, row-first, row-on}
+use Rattle.tables.specs.Laws.Runs.{row-first}
+use Rattle.writer.specs.Rows.{row-end, row-on}
 use borrow.Fn.Kinds.{In}
 use borrow.Fn.PlainCycle.{Measures, is, falls, and}
 use Rattle.writer.proofs.row.Reads as row
@@ -47,7 +48,7 @@ row-place-requires t c κs =
     let e = c .before .before .before in
     let s = e .before in
     let a = s .args in
-    row-first (flags (a .items)) (now (a .parts)) (now (a .numbers)) (a .k) (a .i) (a .left) (e .if1 .left) (s .pre .1 .2) .0
+    row-first (a .k) (a .left) (e .if1 .left) (s .pre .1 .2) .0
 
 row-add-row : (t : ℕ) → row-lts.Need-add-row (calls t) (row-at t) row.Post
 row-add-row t c = let g = c .before .before .before .before .before .pre .1 in fits-of-lt (omega (arith, g))
@@ -64,7 +65,7 @@ row-row-requires t c κs =
     let s = e .before in
     let a = s .args in
     let g = s .pre .1 in
-    (omega (arith, s .pre .0, e .if1 .left), (omega (arith, g, e .if1 .left), omega (arith, g, e .if1 .left), row-first (flags (a .items)) (now (a .parts)) (now (a .numbers)) (a .k) (a .i) (a .left) (e .if1 .left) (g .2) .1))
+    (omega (arith, s .pre .0, e .if1 .left), (omega (arith, g, e .if1 .left), omega (arith, g, e .if1 .left), row-first (a .k) (a .left) (e .if1 .left) (g .2) .1))
 
 row-returns-2 : (t : ℕ) → row-lts.Need-returns-2 (calls t) (row-at t) row.Post
 row-returns-2 t c =

@@ -9,7 +9,7 @@ use mir.Facts.{toZ-ofZ, fits-of-lt}
 use Rattle.codec.specs.Item.{isOne}
 use Rattle.tables.specs.Laws.Lines.{few-flags}
 use Rattle.tables.specs.Laws.Rows.{row-flag}
-use Rattle.writer.specs.Digits.{numberAt}
+use Rattle.layout.specs.Record.{numberAt}
 use Rattle.writer.specs.Chains.{sub-there, sub-absent}
 use Rattle.writer.proofs.subfield.Statement.{statement}
 use Rattle.writer.proofs.subfield.Tie as tie

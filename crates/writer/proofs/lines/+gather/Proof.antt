@@ -8,14 +8,15 @@ use denote.Ref.{now}
 use lib.Pow.{pow-mono}
 use mir.Syntax.{w32}
 use mir.Facts.{toZ-ofZ, fits-of-lt}
-use Rattle.writer.specs.Digits.{lowBits, numberAt, gather-none, first-bits, gather-spare, gather-on, gather-sum, gather-product}
+use Rattle.layout.specs.Record.{numberAt}
+use Rattle.writer.specs.Digits.{lowBits, gather-none, first-bits, gather-spare, gather-on, gather-sum, gather-product}
 use borrow.Fn.Kinds.{In}
 use borrow.Fn.PlainCycle.{Measures, is, falls, and}
 use Rattle.writer.proofs.lines.gather.Reads as gather
 use Rattle.writer.proofs.lines.gather.Kinds as gather-kinds
 use Rattle.writer.proofs.lines.+gather.Lts-gather as gather-lts
 use Rattle.writer.proofs.lines.digit.Reads as digit-reads
-use Rattle.writer.proofs.lines.number_at.Reads as number-at-reads
+use Rattle.layout.proofs.number_at.Reads as number-at-reads
 use Rattle.writer.proofs.lines.power.Reads as power-reads
 use Rattle.writer.proofs.lines.+gather.{statement}
 use Rattle.writer.proofs.lines.+gather.Tie.{close}
