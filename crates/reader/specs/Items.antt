@@ -112,13 +112,6 @@ item-run p qs ss xs at f =
         ∙ fold-subfields xs (v .1) ss v n (subst (λ k. T (flagsUnder k ss)) (sym t) f) (begins-itself xs (v .1))
         ∙ ap (moreAll ss xs) (sym ex)
 
-pub one-is : (z : ℤ) → inside (pos 1) (pos 1) z ≡ isOne z
-unfolding isOne
-one-is (pos zero) = refl
-one-is (pos (suc zero)) = refl
-one-is (pos (suc (suc n))) = rw (lt-leb (suc (suc n)) 1 (omega arith), le-leb 1 (suc (suc n)) (omega arith), ne-eqb (suc (suc n)) 1 (λ e. omega arith)) refl
-one-is (negsuc n) = refl
-
 -- ---- one subfield, in code: x was read before, l is the array before the item, m after x, q after the subfield
 
 more-many : (l : Line) (xs : List ℕ) (k : ℕ) (x : Res Held) → LongBy many k x → LongBy many (k + count (l .pieces)) (more l xs x)

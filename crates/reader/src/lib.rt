@@ -10,7 +10,7 @@ ghost use lib.IntN.{ℤ};
 ghost use lib.ListN.{length, drop, set};
 ghost use Rattle.codec.specs.Codec.{Res};
 ghost use Rattle.codec.specs.Line.{Held};
-ghost use Rattle.codec.specs.Item.{isOne, slots};
+ghost use Rattle.codec.specs.Item.{slots};
 ghost use Rattle.codec.specs.Field.{flags, allZero};
 ghost use Rattle.codec.specs.Frame.{lenOf};
 ghost use Rattle.layout.specs.Papers.{known};
@@ -68,12 +68,6 @@ fn chain(s: &[u8], at: usize, b: usize, base: usize, left: usize, numbers: &mut 
     rest(s, at, a, b, base, left, 0, &mut *numbers)
 }
 
-fn is_one(z: i32) -> bool
-    ensures { λ r. ⌜ r ≡ isOne z ⌝ }
-{
-    lines::between(z, 1, 1)
-}
-
 // Which number of the chain says that subfield b is there.
 fn flag_of(b: usize) -> usize
     ensures { λ r. ⌜ r ≡ lineAt b .flag ⌝ }
@@ -92,7 +86,7 @@ fn subfield(s: &[u8], a: Step, b: usize, base: usize, numbers: &mut [i32; 77]) -
     };
     let f = flag_of(b);
     let z = numbers[base + f];
-    if is_one(z) {
+    if layout::is_one(z) {
         let n = lines::line(s, at, b, base, &mut *numbers);
         let Step::Next(fx, next) = n else {
             return n;

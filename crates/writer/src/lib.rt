@@ -10,7 +10,7 @@ ghost use lib.IntN.{ℤ};
 ghost use lib.ListN.{length, drop};
 ghost use Rattle.codec.specs.Codec.{opt};
 ghost use Rattle.codec.specs.Line.{line};
-ghost use Rattle.codec.specs.Item.{nothing, isOne, flagged, chain, subfields, item};
+ghost use Rattle.codec.specs.Item.{nothing, flagged, chain, subfields, item};
 ghost use Rattle.codec.specs.Field.{flags, row};
 ghost use Rattle.layout.specs.Papers.{known};
 ghost use Rattle.layout.specs.Laws.Slots.{Holds};
@@ -69,12 +69,6 @@ fn chain(
     lines::line(numbers, b, base, 0, at, &mut *octets)
 }
 
-fn is_one(z: i32) -> bool
-    ensures { λ r. ⌜ r ≡ isOne z ⌝ }
-{
-    z == 1
-}
-
 // Subfield b, if the chain says that it is there.
 fn subfield(numbers: &[i32; 77], b: usize, base: usize, at: usize, octets: &mut [u8; 52]) -> usize
     requires { ⌜ base ≤ 255 ⌝ }
@@ -82,7 +76,7 @@ fn subfield(numbers: &[i32; 77], b: usize, base: usize, at: usize, octets: &mut 
 {
     let row = tables::row_of(b);
     let z = layout::number_at(numbers, base + row.6);
-    if is_one(z) {
+    if layout::is_one(z) {
         return lines::line(numbers, b, base, 0, at, &mut *octets);
     }
     at

@@ -1,0 +1,2 @@
+-- The keys as the code keeps them, and the text that it types, level by level.
+pub mod Keys
