@@ -18,14 +18,16 @@ use Rattle.scope.specs.Sheet.{numberText}
 unfoldable pub markIs : ℕ → Bool
 markIs m = ltb 57 m && ltb m 65
 
--- `=` one number, `@` a position, `>` an altitude, `<` an offset, `?` a pressure, `:` a flag that is not listed
+-- `@` a position, `>` an altitude, `?` a pressure, `:` a flag that is not listed; any other mark one number
 unfoldable pub meant : ℕ → List ℕ → List Key
 meant m w =
-    pick (eqb m 61) (shown w ∷ [])
-    (pick (eqb m 64) (angle (w ++ text ".LAT") ∷ angle (w ++ text ".LON") ∷ [])
+    pick (eqb m 64) (angle (w ++ text ".LAT") ∷ angle (w ++ text ".LON") ∷ [])
     (pick (eqb m 62) (shown (w ++ text ".RES") ∷ shown (w ++ text ".GA") ∷ [])
-    (pick (eqb m 60) (shown w ∷ [])
-    (pick (eqb m 63) (pressure w ∷ []) (pick (eqb m 58) (hidden ∷ []) [])))))
+    (pick (eqb m 63) (pressure w ∷ []) (pick (eqb m 58) (hidden ∷ []) (shown w ∷ []))))
+
+-- how many numbers they are
+unfoldable pub slotsIn : ℕ → ℕ
+slotsIn m = pick (eqb m 64) 2 (pick (eqb m 62) 2 1)
 
 -- the keys of a group, w being the word so far
 unfoldable pub keysFrom : List ℕ → List ℕ → List Key

@@ -1,2 +1,4 @@
 -- The keys as the code keeps them, and the text that it types, level by level.
 pub mod Keys
+pub mod Numbers
+pub mod Groups

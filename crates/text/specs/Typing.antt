@@ -59,6 +59,10 @@ types-behind {xs} {ys} {l} {m} {q} {at} {next} {last} a b =
       place = b .place ∙ ap (λ i. placeAfter i ys) (a .place) ∙ w .place;
     }
 
+-- the same word by another name
+pub types-as : {xs ys l m : List ℕ} {at next : ℕ} → xs ≡ ys → Types xs l at m next → Types ys l at m next
+types-as {l = l} {m = m} {at = at} {next = next} e a = subst (λ x. Types x l at m next) e a
+
 -- nothing is typed
 pub types-none : (l : List ℕ) (at : ℕ) → Types [] l at l at
 unfolding typedAt placeAfter

@@ -1,0 +1,18 @@
+-- `sheet::numbers::coordinate` meets its contract: the angle stands behind the number. Assumes nothing.
+use borrow.Author.Needs.{sfits-of}
+use mir.Syntax.{w64}
+use mir.Facts.{toZ-ofZ}
+use Rattle.text.specs.Typing.{types-behind}
+use Rattle.sheet.proofs.numbers.coordinate.Statement.{statement}
+use Rattle.sheet.proofs.numbers.coordinate.Tie as tie
+
+returns : tie.Need-returns
+returns c =
+    let u = c .before .before in
+    let n = u .before in
+    let s = n .before .before .before .before .before in
+    types-behind (rw (toZ-ofZ (s .fits .n)) at (n .number .ensures))
+    (rw (toZ-ofZ {w = w64} {z = u .udeg .result} (sfits-of (u .udeg .ok)), u .udeg .ensures, toZ-ofZ (s .fits .n)) at (c .pair .ensures))
+
+pub coordinate-spec : {M : Type 1} → statement M
+coordinate-spec = tie.close (tie.spec (λ c κs. tt) (λ c κs. tt) (λ c κs. tt) returns)
