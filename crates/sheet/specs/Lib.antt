@@ -2,3 +2,4 @@
 pub mod Keys
 pub mod Numbers
 pub mod Groups
+pub mod Lines

@@ -4,3 +4,4 @@
 ghost use mathlib.Core.Path.{_≡_};
 
 mod numbers;
+mod items;
