@@ -138,9 +138,25 @@ digits-under (suc f) (suc k) n h =
     (λ less. omega arith)
     (λ more. omega (arith, length-append (digitsOf f (n / 10)) ((48 + n % 10) ∷ []), digits-under f k (n / 10) (tenth (suc k) n h)))
 
+-- a larger number has no fewer
+pub digits-longer : (f m n : ℕ) → m ≤ n → length (digitsOf f m) ≤ length (digitsOf f n)
+unfolding digitsOf
+digits-longer zero m n h = omega arith
+digits-longer (suc f) m n h =
+    cases (λ os. length os ≤ length (digitsOf (suc f) n)) f m
+    (λ less. some-digit f n)
+    (λ more. cases (λ os. length (digitsOf f (m / 10) ++ ((48 + m % 10) ∷ [])) ≤ length os) f n
+    (λ fewer. absurd (omega arith))
+    (λ most. omega (arith, length-append (digitsOf f (m / 10)) ((48 + m % 10) ∷ []), length-append (digitsOf f (n / 10)) ((48 + n % 10) ∷ []), digits-longer f (m / 10) (n / 10) (omega arith))))
+
+-- the same for a number in decimal
 pub decimal-most : (n : ℕ) → length (decimal n) ≤ 20
 unfolding decimal
 decimal-most n = digits-most 20 n
+
+pub decimal-longer : (m n : ℕ) → m ≤ n → length (decimal m) ≤ length (decimal n)
+unfolding decimal
+decimal-longer m n h = digits-longer 20 m n h
 
 pub decimal-under : (k n : ℕ) → n < 10 ^ suc k → length (decimal n) ≤ suc k
 unfolding decimal
