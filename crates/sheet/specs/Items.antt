@@ -19,12 +19,13 @@ use Rattle.layout.specs.Cat007.{cat007}
 use Rattle.layout.specs.Names.{Key, Named, names048, names021, names007}
 use Rattle.layout.specs.Record.{numberAt}
 use Rattle.layout.specs.Laws.Slots.{Holds, holds-take, holds-drop}
-use Rattle.scope.specs.Sheet.{numberText, numbersText, partsThere, subfieldsThere, linesThere, linesText}
+use Rattle.scope.specs.Sheet.{decimal, line, numberText, numbersText, chainText, itemText, partsThere, subfieldsThere, linesThere, linesText}
 use Rattle.tables.specs.Lines.{items, noLine, placedAt, lineAt, firstAt, countAt, itemAt}
 use Rattle.tables.specs.Shapes.{linesFrom, flagsUnder, itemOf, shapeAt, shapes, shapesFrom, shapeOf, inTurn}
-use Rattle.tables.specs.Laws.Lines.{every-at}
+use Rattle.tables.specs.Laws.Lines.{every-at, past-item}
 use Rattle.tables.specs.Laws.Runs.{turn-first, turn-rest}
 use Rattle.tables.specs.Laws.Shapes.{Shaped, shaped-well, shape-single, shape-chained}
+use Rattle.text.specs.Typing.{Types, types-as, types-none}
 use Rattle.sheet.specs.Keys.{span, keysFrom, groups, keyed}
 use Rattle.sheet.specs.Lines.{isThere, lineKeyed, linesKeyed, itemKeyed}
 
@@ -212,3 +213,29 @@ item-lines ns base n k t eg zs hz el = go (eqb p 0) refl
         (told-chained ns base n t ks zs hz b (p - 1) s (well .begins) (subst (λ x. T (inTurn b (x + s))) (sym f) (in-turn k))
         (subst (λ x. T (flagsUnder (slotsOf (linesFrom b x)) (linesFrom (b + x) s))) (sym f) (well .flags-under))))
         eg (keys-right k) el
+
+-- ---- what the code of an item promises, and its arms: an item with a line for its chain, and one without
+
+abbrev pub ItemTyped : ℕ → ℕ → List ℤ → ℕ → List ℕ → ℕ → List ℕ → ℕ → Type 0
+ItemTyped k n ns base l at m next = (zs : List ℤ) → Holds ns base zs → length zs ≡ slots (itemAt k) → Types (itemText (itemAt k) (namedAt k) (n, zs)) l at m next
+
+module _ (ns : List ℤ) (base n : ℕ) {k : ℕ} (j : ℕ) (ek : k ≡ j) (t : List ℕ) {l m : List ℕ} {at next : ℕ} (eg : groups (length (linesOf (itemAt j))) t ≡ namedAt j .keys) where
+  pub arm-plain : ((i : ℕ) → chainText (itemAt j) (namedAt j) i ≡ []) → Types (itemKeyed t ns n k base) l at m next → ItemTyped k n ns base l at m next
+  unfolding itemText
+  arm-plain ec a = subst (λ x. Types (itemKeyed t ns n x base) l at m next → ItemTyped x n ns base l at m next) (sym ek) go a
+    where
+      go : Types (itemKeyed t ns n j base) l at m next → ItemTyped j n ns base l at m next
+      go a zs hz el = types-as (item-lines ns base n j t eg zs hz el ∙ ap (_++ linesText (linesThere (itemAt j) (n, zs)) (namedAt j .keys) (linesOf (itemAt j)) zs) (sym (ec n))) a
+
+  pub arm-chained : (key : List ℕ) → ((i : ℕ) → chainText (itemAt j) (namedAt j) i ≡ line key (decimal i)) → Types (line key (decimal n) ++ itemKeyed t ns n k base) l at m next → ItemTyped k n ns base l at m next
+  unfolding itemText
+  arm-chained key ec a = subst (λ x. Types (line key (decimal n) ++ itemKeyed t ns n x base) l at m next → ItemTyped x n ns base l at m next) (sym ek) go a
+    where
+      go : Types (line key (decimal n) ++ itemKeyed t ns n j base) l at m next → ItemTyped j n ns base l at m next
+      go a zs hz el = types-as (ap₂ _++_ (sym (ec n)) (item-lines ns base n j t eg zs hz el)) a
+
+-- past the last item there is nothing
+pub arm-past : (ns : List ℤ) (base n k : ℕ) → 14 ≤ k → (l : List ℕ) (at : ℕ) → ItemTyped k n ns base l at l at
+unfolding itemText chainText linesThere linesText numbersText namedAt named names048 names021 names007 linesOf
+arm-past ns base n k h l at zs hz el =
+    types-as (sym (ap₂ (λ it nm. itemText it nm (n, zs)) (past-item k h) (List·getD-eq-default named nobody h))) (types-none l at)
