@@ -31,7 +31,7 @@ use Rattle.sheet.specs.Lines.{isThere, lineKeyed, linesKeyed, itemKeyed}
 
 -- ---- the names of the items that some paper has, in the order of the tables
 
-abbrev nobody : Named
+abbrev pub nobody : Named
 nobody = record { name = []; keys = [] ∷ [] }
 
 unfoldable pub named : List Named

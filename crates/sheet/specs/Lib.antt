@@ -4,3 +4,5 @@ pub mod Numbers
 pub mod Groups
 pub mod Lines
 pub mod Items
+pub mod Rows
+pub mod Whole

@@ -9,7 +9,6 @@ ghost use Rattle.text.specs.Typing.{Types};
 ghost use Rattle.sheet.specs.Keys.{span};
 ghost use Rattle.sheet.specs.Lines.{isThere, lineKeyed, linesKeyed, itemKeyed};
 ghost use Rattle.sheet.specs.Items.{ItemTyped};
-
 use crate::numbers;
 
 // The octets of the first group of keys, with its space.
@@ -184,15 +183,7 @@ fn item_048(
             at,
             &mut *buf,
         ),
-        2 => item(
-            b"M4E= ",
-            count,
-            k,
-            numbers,
-            base,
-            at,
-            &mut *buf,
-        ),
+        2 => item(b"M4E= ", count, k, numbers, base, at, &mut *buf),
         3 => item(
             b":::: RPC.SCO= RPC.SCR= RPC.RW= RPC.AR= ",
             count,
@@ -202,15 +193,7 @@ fn item_048(
             at,
             &mut *buf,
         ),
-        _ => item(
-            b"ERR= ",
-            count,
-            k,
-            numbers,
-            base,
-            at,
-            &mut *buf,
-        ),
+        _ => item(b"ERR= ", count, k, numbers, base, at, &mut *buf),
     }
 }
 
@@ -227,15 +210,7 @@ fn item_021(
     ensures { λ r. ⌜ ItemTyped k count (now (numbers .entry)) base (now (buf .entry)) at (now (buf .exit)) r ⌝ }
 {
     match k {
-        5 => item(
-            b"BPS? ",
-            count,
-            k,
-            numbers,
-            base,
-            at,
-            &mut *buf,
-        ),
+        5 => item(b"BPS? ", count, k, numbers, base, at, &mut *buf),
         6 => item(
             b"SelH.HRD=SelH.Stat=SelH.SelH= ",
             count,
@@ -283,15 +258,7 @@ fn item_021(
             at,
             &mut *buf,
         ),
-        11 => item(
-            b"TNH= ",
-            count,
-            k,
-            numbers,
-            base,
-            at,
-            &mut *buf,
-        ),
+        11 => item(b"TNH= ", count, k, numbers, base, at, &mut *buf),
         _ => item(
             b":::::: MES.SUM.M5=MES.SUM.ID=MES.SUM.DA=MES.SUM.M1=MES.SUM.M2=MES.SUM.M3=MES.SUM.MC=MES.SUM.PO= MES.PNO.PIN=MES.PNO.NO= MES.EM1.V=MES.EM1.L=MES.EM1.EM1= MES.XP.XP=MES.XP.X5=MES.XP.XC=MES.XP.X3=MES.XP.X2=MES.XP.X1= MES.FOM= MES.M2.V=MES.M2.L=MES.M2.M2= ",
             count,

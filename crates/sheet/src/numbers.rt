@@ -35,10 +35,7 @@ fn position_at(numbers: &[i32; 77], slot: usize) -> Position
 {
     let lat = layout::number_at(numbers, slot);
     let lon = layout::number_at(numbers, slot + 1);
-    Position {
-        lat: lat,
-        lon: lon,
-    }
+    Position { lat: lat, lon: lon }
 }
 
 fn altitude_at(numbers: &[i32; 77], slot: usize) -> Altitude

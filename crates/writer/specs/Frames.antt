@@ -50,15 +50,6 @@ set-last : {A : Type 0} (o : List A) (x y : A) (xs : List A) → set (sets (set 
 set-last [] x y xs = ap (λ (l : List _). set l 0 x) (sets-none 2 xs) ∙ sym (sets-none 2 xs)
 set-last (z ∷ o) x y xs = ap (λ (l : List _). set l 0 x) (sets-behind z (set o 0 y) 1 xs) ∙ sym (sets-behind x (set o 0 y) 1 xs)
 
--- ---- `row` may be called
-
-pub row-asks : (cat : ℕ) → known cat ≡ true → {k n : ℕ} → k ≡ spotOf cat → n ≡ itemsOf cat → (k + n ≤ 200) × (0 + n ≤ 8) × T (rowOk k n)
-row-asks cat h ek en =
-    let s : Spots cat = spots-right cat h in
-    let few : itemsOf cat ≤ 8 = few-items cat in
-    let low : spotOf cat < 100 = s .few in
-    rw (ek, en) (omega arith, omega arith, s .row-is)
-
 -- ---- what the codec writes
 
 module _ (cat items : ℕ) (ps : List ℕ) (ns : List ℤ) where

@@ -2,7 +2,7 @@
 use mathlib.Core.Path.{_≡_, refl, sym, ap, ap₂, _∙_, subst}
 use mathlib.Core.Bool.{Bool, true, false}
 use mathlib.Core.List.{List}
-use Prim.Native.Nat.{ℕ, _<_}
+use Prim.Native.Nat.{ℕ, _+_, _≤_, _<_}
 use native.Mathlib.Omega.{arith}
 use borrow.Author.Tests.{eqb-true}
 use lib.Dec.{T, eqb}
@@ -14,7 +14,7 @@ use Rattle.layout.specs.Cat048.{cat048}
 use Rattle.layout.specs.Cat021.{cat021}
 use Rattle.layout.specs.Cat007.{cat007}
 use Rattle.layout.specs.Papers.{known, paperOf, itemsOf}
-use Rattle.layout.specs.Laws.Papers.{paper-048, paper-021, paper-007}
+use Rattle.layout.specs.Laws.Papers.{paper-048, paper-021, paper-007, few-items}
 use Rattle.tables.specs.Lines.{items, itemAt, spotsFrom, spots, spotAt, spotOf}
 use Rattle.tables.specs.Shapes.{spotOk, rowOk, itemsFrom}
 
@@ -57,3 +57,12 @@ spots-right cat h = go (eqb cat 48) refl (eqb cat 21) refl (eqb cat 7) refl
         let f : pick (eqb cat 48) true (pick (eqb cat 21) true (eqb cat 7)) ≡ false = rw (ex, ey, ez) refl in
         let w : true ≡ false = sym h ∙ f in
         let q : _≡_ {A = ℕ} 0 1 = cc in absurd (omega arith)
+
+-- ---- what a walk over the spots of a category asks
+
+pub row-asks : (cat : ℕ) → known cat ≡ true → {k n : ℕ} → k ≡ spotOf cat → n ≡ itemsOf cat → (k + n ≤ 200) × (0 + n ≤ 8) × T (rowOk k n)
+row-asks cat h ek en =
+    let s : Spots cat = spots-right cat h in
+    let few : itemsOf cat ≤ 8 = few-items cat in
+    let low : spotOf cat < 100 = s .few in
+    rw (ek, en) (omega arith, omega arith, s .row-is)

@@ -2,7 +2,8 @@
 use mathlib.Core.Path.{refl}
 use borrow.Author.Needs.{needs}
 use denote.Ref.{now}
-use Rattle.writer.specs.Frames.{row-asks, lay-front}
+use Rattle.tables.specs.Laws.Spots.{row-asks}
+use Rattle.writer.specs.Frames.{lay-front}
 use Rattle.writer.proofs.lay.Statement.{statement}
 use Rattle.writer.proofs.lay.Tie as tie
 
