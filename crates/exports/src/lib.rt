@@ -1,0 +1,270 @@
+// The C interface: each operation as a function that a program in C calls, declared in include/refdesk.h.
+// Promises: the word that is answered, and every element of lent memory afterwards, are those of 01's definitions, for every input; a refusal writes nothing.
+// Stands on reader, writer, views, desk and sheet, which it knows by their contracts.
+ghost use mathlib.Core.Path.{_≡_};
+ghost use mathlib.Core.List.{map};
+ghost use lib.IntN.{pos};
+ghost use lib.ListN.{length};
+ghost use Rattle.codec.specs.Change.{remove, put};
+ghost use Rattle.layout.specs.Answer.{placeOf, lengthOf, viewPlace, viewLength, whichNumber};
+ghost use Rattle.scope.specs.Reading.{readOf};
+ghost use Rattle.scope.specs.Writing.{withRoom, answerOf, after};
+ghost use Rattle.scope.specs.Sheet.{sheetOf};
+ghost use Rattle.scope.specs.Views.{viewOf, chooseOf};
+ghost use Rattle.scope.specs.Desk.{editOf};
+ghost use Rattle.promises.specs.Outputs.{Leaves};
+ghost use Rattle.exports.specs.Words.{wordOf, Fit, answerWord, sideWord, viewWord, choiceWord};
+ghost use Rattle.exports.specs.Arrays.{arrayOf, fillAnswer, filledBy, isOctet, areOctets, octetOf, recordOf, writeArray};
+use layout::Answer;
+use layout::Record;
+use layout::View;
+use layout::Which;
+
+// The places of a record's array.
+const PLACES: usize = 87;
+
+// Four numbers of 16 bits each, the refusal's number highest.
+fn word(number: u8, which: u8, place: usize, length: usize) -> u64
+    requires { ⌜ Fit place length ⌝ }
+    ensures { λ r. ⌜ r ≡ wordOf number which place length ⌝ }
+{
+    (number as u64) * 281474976710656
+        + (which as u64) * 4294967296
+        + (place as u64) * 65536
+        + (length as u64)
+}
+
+fn answer_word(a: Answer) -> u64
+    requires { ⌜ Fit (placeOf a) (lengthOf a) ⌝ }
+    ensures { λ r. ⌜ r ≡ answerWord a ⌝ }
+{
+    match a {
+        Answer::Accepted(n) => word(0, 0, 0, n),
+        Answer::Refused(e, p) => word(e, 0, p, 0),
+    }
+}
+
+fn side_word(which: u8, v: View) -> u64
+    requires { ⌜ Fit (viewPlace v) (viewLength v) ⌝ }
+    ensures { λ r. ⌜ r ≡ sideWord which v ⌝ }
+{
+    match v {
+        View::Shown(from, n) => word(0, which, from, n),
+        View::Hidden(e, p) => word(e, which, p, 0),
+    }
+}
+
+fn which_number(w: Which) -> u8
+    ensures { λ r. ⌜ r ≡ whichNumber w ⌝ }
+{
+    match w {
+        Which::Neither => 0,
+        Which::Base => 1,
+        Which::Correction => 2,
+    }
+}
+
+fn is_octet(z: i32) -> bool
+    ensures { λ r. ⌜ r ≡ isOctet z ⌝ }
+{
+    if z < 0 {
+        return false;
+    }
+    z < 256
+}
+
+fn are_octets(numbers: &[i32]) -> bool
+    ensures { λ r. ⌜ r ≡ areOctets (now (numbers .entry)) ⌝ }
+{
+    let mut i: usize = 0;
+    while i < numbers.len() {
+        if is_octet(numbers[i]) {
+            i += 1;
+        } else {
+            return false;
+        }
+    }
+    true
+}
+
+// The octet that a number is; 0 for one that is none.
+fn octet(z: i32) -> u8
+    ensures { λ r. ⌜ r ≡ octetOf z ⌝ }
+{
+    if is_octet(z) {
+        return z as u8;
+    }
+    0
+}
+
+fn signed(o: u8) -> i32
+    ensures { λ r. ⌜ r ≡ pos o ⌝ }
+{
+    o as i32
+}
+
+// Octets as numbers, numbers as octets, and numbers as they are, from one slice into another that is as long.
+fn widen(octets: &[u8], numbers: &mut [i32])
+    requires { ⌜ length (now octets) ≡ length (now numbers) ⌝ }
+    ensures { λ _. ⌜ now (numbers .exit) ≡ map pos (now (octets .entry)) ⌝ }
+{
+    let mut i: usize = 0;
+    while i < octets.len() {
+        numbers[i] = signed(octets[i]);
+        i += 1;
+    }
+}
+
+fn narrow(numbers: &[i32], octets: &mut [u8])
+    requires { ⌜ length (now numbers) ≡ length (now octets) ⌝ }
+    ensures { λ _. ⌜ now (octets .exit) ≡ map octetOf (now (numbers .entry)) ⌝ }
+{
+    let mut i: usize = 0;
+    while i < numbers.len() {
+        octets[i] = octet(numbers[i]);
+        i += 1;
+    }
+}
+
+fn copy(from: &[i32], to: &mut [i32])
+    requires { ⌜ length (now from) ≡ length (now to) ⌝ }
+    ensures { λ _. ⌜ now (to .exit) ≡ now (from .entry) ⌝ }
+{
+    let mut i: usize = 0;
+    while i < from.len() {
+        to[i] = from[i];
+        i += 1;
+    }
+}
+
+// A record into its array.
+fn fill(kept: Record, out: &mut [i32])
+    requires { ⌜ length (now out) ≡ 87 ⌝ }
+    ensures { λ _. ⌜ now (out .exit) ≡ arrayOf kept ⌝ }
+{
+    let parts = kept.parts;
+    let numbers = kept.numbers;
+    out[0] = signed(kept.cat);
+    out[1] = signed(kept.items);
+    widen(&parts[..], &mut out[2..10]);
+    copy(&numbers[..], &mut out[10..]);
+}
+
+// The record of an array.
+fn record_of(a: &[i32]) -> Record
+    requires { ⌜ length (now a) ≡ 87 ⌝ }
+    ensures { λ r. ⌜ r ≡ recordOf (now (a .entry)) ⌝ }
+{
+    let mut parts = [0u8; 8];
+    let mut numbers = [0i32; 77];
+    narrow(&a[2..10], &mut parts[..]);
+    copy(&a[10..], &mut numbers[..]);
+    Record {
+        cat: octet(a[0]),
+        items: octet(a[1]),
+        parts: parts,
+        numbers: numbers,
+    }
+}
+
+// What a refused array answers, or what the writer does.
+fn write_array(a: &[i32], out: &mut [u8]) -> Answer
+    ensures { λ r. ⌜ Leaves (writeArray (now (a .entry)) (length (now (out .entry)))) (now (out .entry)) r (now (out .exit)) ⌝ }
+{
+    if a.len() == PLACES {
+        if layout::is_known(octet(a[0])) {
+            if are_octets(&a[1..10]) {
+                return writer::write(record_of(a), &mut *out);
+            }
+            return Answer::Refused(10, 0);
+        }
+        return Answer::Refused(1, 0);
+    }
+    Answer::Refused(10, 0)
+}
+
+// The field's record into an array of 87; LEN is the length that is answered.
+#[no_mangle]
+pub extern "C" fn ref_read(cat: u8, field: &[u8], out: &mut [i32]) -> u64
+    ensures { λ r. ⌜ r ≡ answerWord (fillAnswer (length (now (out .entry))) (readOf cat (now (field .entry)) .answer)) ⌝ }
+    ensures array { λ _. ⌜ now (out .exit) ≡ filledBy (fillAnswer (length (now (out .entry))) (readOf cat (now (field .entry)) .answer)) (readOf cat (now (field .entry)) .kept) (now (out .entry)) ⌝ }
+{
+    let found = reader::read(cat, field);
+    let a = found.answer;
+    let Answer::Accepted(_) = a else {
+        return answer_word(a);
+    };
+    if out.len() == PLACES {
+        let kept = found.kept;
+        fill(kept, &mut *out);
+        return answer_word(a);
+    }
+    answer_word(Answer::Refused(11, 0))
+}
+
+// The field of a record's array, into the front of the output.
+#[no_mangle]
+pub extern "C" fn ref_write(a: &[i32], out: &mut [u8]) -> u64
+    ensures { λ r. ⌜ r ≡ answerWord (answerOf (writeArray (now (a .entry)) (length (now (out .entry))))) ⌝ }
+    ensures octets { λ _. ⌜ now (out .exit) ≡ after (writeArray (now (a .entry)) (length (now (out .entry)))) (now (out .entry)) ⌝ }
+{
+    let done = write_array(a, &mut *out);
+    answer_word(done)
+}
+
+// Where an item stands in its field.
+#[no_mangle]
+pub extern "C" fn ref_view(cat: u8, field: &[u8], item: u8) -> u64
+    ensures { λ r. ⌜ r ≡ viewWord (viewOf cat (now (field .entry)) item) ⌝ }
+{
+    let v = views::view_answer(cat, field, item);
+    side_word(0, v)
+}
+
+// Where an item stands in the correction, or else in the base.
+#[no_mangle]
+pub extern "C" fn ref_choose(cat: u8, base: &[u8], correction: &[u8], item: u8) -> u64
+    ensures { λ r. ⌜ r ≡ choiceWord (chooseOf cat (now (base .entry)) (now (correction .entry)) item) ⌝ }
+{
+    let c = views::choose_answer(cat, base, correction, item);
+    let w = c.which;
+    let v = c.view;
+    side_word(which_number(w), v)
+}
+
+// A field without an item, into the front of the output.
+#[no_mangle]
+pub extern "C" fn ref_remove(cat: u8, field: &[u8], list: u8, item: u8, out: &mut [u8]) -> u64
+    ensures { λ r. ⌜ r ≡ answerWord (answerOf (editOf cat (now (field .entry)) list item remove (length (now (out .entry))))) ⌝ }
+    ensures octets { λ _. ⌜ now (out .exit) ≡ after (editOf cat (now (field .entry)) list item remove (length (now (out .entry)))) (now (out .entry)) ⌝ }
+{
+    let done = desk::remove(cat, field, list, item, &mut *out);
+    answer_word(done)
+}
+
+// A field with an item of new octets, into the front of the output.
+#[no_mangle]
+pub extern "C" fn ref_replace(
+    cat: u8,
+    field: &[u8],
+    list: u8,
+    item: u8,
+    new: &[u8],
+    out: &mut [u8],
+) -> u64
+    ensures { λ r. ⌜ r ≡ answerWord (answerOf (editOf cat (now (field .entry)) list item (put (now (new .entry))) (length (now (out .entry))))) ⌝ }
+    ensures octets { λ _. ⌜ now (out .exit) ≡ after (editOf cat (now (field .entry)) list item (put (now (new .entry))) (length (now (out .entry)))) (now (out .entry)) ⌝ }
+{
+    let done = desk::replace(cat, field, list, item, new, &mut *out);
+    answer_word(done)
+}
+
+// The sheet of a category octet and a field, into the front of the output.
+#[no_mangle]
+pub extern "C" fn ref_sheet(input: &[u8], out: &mut [u8]) -> u64
+    ensures { λ r. ⌜ r ≡ answerWord (answerOf (withRoom (length (now (out .entry))) (sheetOf (now (input .entry))))) ⌝ }
+    ensures octets { λ _. ⌜ now (out .exit) ≡ after (withRoom (length (now (out .entry))) (sheetOf (now (input .entry)))) (now (out .entry)) ⌝ }
+{
+    let done = sheet::sheet(input, &mut *out);
+    answer_word(done)
+}
