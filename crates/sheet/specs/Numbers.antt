@@ -45,17 +45,18 @@ pub alone-key : (name : List ℕ) (z : ℤ) {l m : List ℕ} {at next : ℕ} →
 unfolding numberText
 alone-key name z a = types-as (ap (λ k. line k (signedDecimal z)) (append-nil name)) a
 
--- the angle stands under the coordinate's own key
-pub coordinate-key : (name more : List ℕ) (z : ℤ) {l m : List ℕ} {at next : ℕ}
-    → Types (line (name ++ more) (signedDecimal z) ++ line (name ++ (more ++ text ".udeg")) (signedDecimal (udegOf z))) l at m next
+-- the angle stands under the coordinate's own key; y is the number as the machine has it
+pub coordinate-key : (name more : List ℕ) (z : ℤ) {y : ℤ} → y ≡ z → {l m : List ℕ} {at next : ℕ}
+    → Types (line (name ++ more) (signedDecimal y) ++ line (name ++ (more ++ text ".udeg")) (signedDecimal (udegOf y))) l at m next
     → Types (numberText (angle (name ++ more)) z) l at m next
 unfolding numberText
-coordinate-key name more z a =
-    types-as (ap (λ k. line (name ++ more) (signedDecimal z) ++ line k (signedDecimal (udegOf z))) (sym (append-assoc name more (text ".udeg")))) a
+coordinate-key name more z e a =
+    types-as (ap (λ x. line (name ++ more) (signedDecimal x) ++ line (name ++ (more ++ text ".udeg")) (signedDecimal (udegOf x))) e
+    ∙ ap (λ k. line (name ++ more) (signedDecimal z) ++ line k (signedDecimal (udegOf z))) (sym (append-assoc name more (text ".udeg")))) a
 
-pub altitude-key : (name more : List ℕ) (z : ℤ) {l m : List ℕ} {at next : ℕ} → Types (line (name ++ more) (signedDecimal z)) l at m next → Types (numberText (shown (name ++ more)) z) l at m next
+pub altitude-key : (name more : List ℕ) (z : ℤ) {y : ℤ} → y ≡ z → {l m : List ℕ} {at next : ℕ} → Types (line (name ++ more) (signedDecimal y)) l at m next → Types (numberText (shown (name ++ more)) z) l at m next
 unfolding numberText
-altitude-key name more z a = a
+altitude-key name more z e a = types-as (ap (λ x. line (name ++ more) (signedDecimal x)) e) a
 
 pub pressure-keys : (name : List ℕ) (z : ℤ) {l m q : List ℕ} {at next last : ℕ}
     → Types (numberText (shown name) z) l at m next → Types (line (name ++ text ".tenths") (signedDecimal (pos 8_000 +ℤ z))) m next q last → Types (numberText (pressure name) z) l at q last

@@ -14,8 +14,8 @@ returns c =
     let n = c .before .before .before .before in
     let s = n .before .before .before .before .before in
     let a = s .args in
-    types-behind (altitude-key (now (a .name)) (text ".RES") (a .a .res) (rw (toZ-ofZ {w = w32} {z = a .a .res} (sfits-of (n .before .struct-told .given .0 .1))) at (n .number .ensures)))
-    (altitude-key (now (a .name)) (text ".GA") (a .a .ga) (rw (toZ-ofZ {w = w32} {z = a .a .ga} (sfits-of (n .before .struct-told .given .1 .0 .1))) at (c .number2 .ensures)))
+    types-behind (altitude-key (now (a .name)) (text ".RES") (a .a .res) (toZ-ofZ {w = w32} {z = a .a .res} (sfits-of (n .before .struct-told .given .0 .1))) (n .number .ensures))
+    (altitude-key (now (a .name)) (text ".GA") (a .a .ga) (toZ-ofZ {w = w32} {z = a .a .ga} (sfits-of (n .before .struct-told .given .1 .0 .1))) (c .number2 .ensures))
 
 pub altitude-lines-spec : {M : Type 1} → statement M
 altitude-lines-spec = tie.close (tie.spec (λ c. search needs) (λ c κs. tt) (λ c. search needs) (λ c κs. tt) returns)

@@ -14,7 +14,7 @@ returns c =
     let n = c .before .before .before .before .before in
     let s = n .before .before .before .before .before .before in
     let a = s .args in
-    types-behind (coordinate-key (now (a .name)) (text ".LAT") (a .p .lat) (rw (toZ-ofZ {w = w32} {z = a .p .lat} (sfits-of (n .before .struct-told .given .0 .1))) at (n .coordinate .ensures))) (coordinate-key (now (a .name)) (text ".LON") (a .p .lon) (rw (toZ-ofZ {w = w32} {z = a .p .lon} (sfits-of (n .before .struct-told .given .1 .0 .1))) at (c .coordinate2 .ensures)))
+    types-behind (coordinate-key (now (a .name)) (text ".LAT") (a .p .lat) (toZ-ofZ {w = w32} {z = a .p .lat} (sfits-of (n .before .struct-told .given .0 .1))) (n .coordinate .ensures)) (coordinate-key (now (a .name)) (text ".LON") (a .p .lon) (toZ-ofZ {w = w32} {z = a .p .lon} (sfits-of (n .before .struct-told .given .1 .0 .1))) (c .coordinate2 .ensures))
 
 pub position-lines-spec : {M : Type 1} → statement M
 position-lines-spec =
