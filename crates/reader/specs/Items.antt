@@ -2,11 +2,10 @@
 use mathlib.Core.Path.{_≡_, refl, sym, ap, ap₂, _∙_, subst}
 use mathlib.Core.Bool.{Bool, true, false}
 use mathlib.Core.List.{List, [], _∷_, _++_, append-assoc, append-nil}
-use Prim.Native.Nat.{ℕ, zero, suc, _+_, _-_, _≤_, _<_}
+use Prim.Native.Nat.{ℕ, zero, suc, _+_, _≤_, _<_}
 use native.Mathlib.Omega.{arith}
 use lib.Dec.{T, ltb, ltb→lt}
-use borrow.Author.Tests.{le-leb, lt-leb, ne-eqb}
-use lib.IntN.{ℤ, pos, negsuc}
+use lib.IntN.{ℤ, pos}
 use lib.ListN.{length, getD, replicate, drop, length-append, List·getD-append}
 use lib.Seq.{sets}
 use Rattle.codec.specs.Codec.{Res, got, bad, mapRes, opt}
@@ -19,7 +18,6 @@ use Rattle.tables.specs.Laws.Lines.{past-lines, past-item}
 use Rattle.tables.specs.Shapes.{linesFrom, flagsUnder, itemOf}
 use Rattle.codec.specs.Laws.Sets.{sets-append}
 use Rattle.reader.specs.Steps.{stepOf, afterOf, run, lineRun}
-use Rattle.reader.specs.Numbers.{inside}
 use Rattle.reader.specs.declared.lines.Step.{Step}
 use Rattle.reader.specs.declared.lines.Step.the-variants.{Next, Refused}
 use Rattle.reader.specs.Chains.{chainRun, chain-whole}

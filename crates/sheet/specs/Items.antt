@@ -1,17 +1,16 @@
 -- The text of an item: what the code types by its groups of keys is what the sheet has.
-use mathlib.Core.Path.{_≡_, refl, sym, ap, ap₂, _∙_, subst, subst₂}
+use mathlib.Core.Path.{_≡_, refl, sym, ap, ap₂, _∙_, subst}
 use mathlib.Core.Bool.{Bool, true, false}
 use mathlib.Core.List.{List, [], _∷_, _++_, map}
-use Prim.Native.Nat.{ℕ, zero, suc, _+_, _-_, _≤_, _<_}
-use native.Mathlib.Numerals.{add-one}
+use Prim.Native.Nat.{ℕ, zero, suc, _+_, _-_, _≤_}
 use native.Mathlib.Omega.{arith}
-use borrow.Author.Tests.{eqb-true, eqb-false, lt-ltb}
+use borrow.Author.Tests.{eqb-true, eqb-false}
 use lib.Dec.{T, ltb, eqb, ltb→lt, lt→ltb, eqb·suc-zero}
-use lib.IntN.{ℤ, pos}
+use lib.IntN.{ℤ}
 use lib.ListN.{length, getD, take, drop, length-take, length-drop, List·getD-map, List·getD-eq-default}
 use Rattle.codec.specs.Pick.{pick}
-use Rattle.codec.specs.Line.{Line, Held, count}
-use Rattle.codec.specs.Item.{Item, chained, single, slotsOf, slots, linesOf, isOne, flagged}
+use Rattle.codec.specs.Line.{Line, count}
+use Rattle.codec.specs.Item.{Item, single, slotsOf, slots, linesOf, isOne}
 use Rattle.codec.specs.Laws.Tests.{and-in, and-l, and-r}
 use Rattle.layout.specs.Cat048.{cat048}
 use Rattle.layout.specs.Cat021.{cat021}

@@ -1,14 +1,11 @@
 -- How the code keeps the keys of an item's numbers: for each chain part and subfield a group, ended by a space; in it, in the order of the numbers, a word and behind it a mark,
 -- which says how the word's numbers stand on the sheet.
-use mathlib.Core.Path.{_≡_, refl, sym, ap, ap₂, _∙_}
-use mathlib.Core.Bool.{Bool, true, false, _&&_}
+use mathlib.Core.Bool.{Bool, _&&_}
 use mathlib.Core.List.{List, [], _∷_, _++_}
-use Prim.Native.Nat.{ℕ, zero, suc, _+_, _-_, _≤_, _<_}
-use native.Mathlib.Omega.{arith}
-use borrow.Author.Tests.{eq-eqb, ne-eqb}
+use Prim.Native.Nat.{ℕ, zero, suc, _+_}
 use lib.Dec.{ltb, eqb}
 use lib.IntN.{ℤ}
-use lib.ListN.{length, getD, take, drop, length-append}
+use lib.ListN.{take, drop}
 use Rattle.codec.specs.Pick.{pick}
 use Rattle.layout.specs.Names.{text, Key, hidden, shown, angle, pressure}
 use Rattle.layout.specs.Record.{numberAt}

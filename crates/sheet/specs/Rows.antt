@@ -2,21 +2,19 @@
 use mathlib.Core.Path.{_≡_, refl, sym, ap, ap₂, _∙_, subst}
 use mathlib.Core.Bool.{Bool, true, false}
 use mathlib.Core.List.{List, [], _∷_, _++_}
-use Prim.Native.Nat.{ℕ, zero, suc, _+_, _-_, _≤_, _<_}
+use Prim.Native.Nat.{ℕ, zero, suc, _+_, _-_, _≤_}
 use native.Mathlib.Omega.{arith}
-use borrow.Author.Tests.{eqb-true}
 use lib.Dec.{T, eqb, leb→le}
 use lib.IntN.{ℤ}
 use lib.ListN.{length, getD, take, drop, length-take, length-drop, List·getD-eq-default}
 use Rattle.codec.specs.Pick.{pick}
 use Rattle.codec.specs.Line.{Held}
 use Rattle.codec.specs.Item.{Item, slots}
-use Rattle.codec.specs.Field.{firstFlag, nextFlags, uncons}
-use Rattle.layout.specs.Names.{text, Named, names048, names021, names007, namesOf}
+use Rattle.codec.specs.Field.{uncons}
+use Rattle.layout.specs.Names.{text, Named, names048, names021, names007}
 use Rattle.layout.specs.Laws.Slots.{Holds, holds-item}
-use Rattle.layout.specs.Papers.{known, paperOf, itemsOf}
 use Rattle.scope.specs.Sheet.{itemText, rowText, itemsText}
-use Rattle.tables.specs.Lines.{itemAt, spotAt, spots, spotsFrom, spotOf}
+use Rattle.tables.specs.Lines.{spotAt}
 use Rattle.tables.specs.Shapes.{itemOn, spotOk, rowOk, itemsFrom, numbersOn, heldFrom}
 use Rattle.tables.specs.Laws.Runs.{first-drop, next-drop, items-on, held-on}
 use Rattle.text.specs.Typing.{Types, types-as, types-behind, types-none}

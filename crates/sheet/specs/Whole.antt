@@ -1,17 +1,16 @@
 -- The whole sheet, from the record that was read.
 use mathlib.Core.Path.{_≡_, refl, sym, ap, ap₂, _∙_, subst}
 use mathlib.Core.Bool.{Bool, true, false}
-use mathlib.Core.List.{List, [], _∷_, _++_, append-assoc}
+use mathlib.Core.List.{List, [], _∷_, _++_}
 use Prim.Native.Nat.{ℕ, suc, _+_, _-_, _≤_}
 use native.Mathlib.Omega.{arith}
 use borrow.Author.Tests.{eqb-true}
 use lib.Dec.{T, eqb}
-use lib.IntN.{ℤ, pos}
+use lib.IntN.{pos}
 use lib.ListN.{length, getD, take, drop, replicate, length-append, length-replicate, length-take}
 use lib.Seq.{take-all}
 use Rattle.codec.specs.Pick.{pick}
 use Rattle.codec.specs.Codec.{Octets}
-use Rattle.codec.specs.Item.{Item}
 use Rattle.codec.specs.Field.{flags, Contents, body}
 use Rattle.codec.specs.Frame.{Outcome, accepted, refused, lenOf, okayFrame}
 use Rattle.codec.specs.Laws.Tests.{and-l}
@@ -22,7 +21,7 @@ use Rattle.layout.specs.Cat007.{cat007}
 use Rattle.layout.specs.declared.Record.{Record}
 use Rattle.layout.specs.declared.Reading.{Reading}
 use Rattle.layout.specs.declared.Answer.the-variants.{Accepted, Refused}
-use Rattle.layout.specs.Names.{text, Named, names048, names021, names007, namesOf}
+use Rattle.layout.specs.Names.{text, names048, names021, names007, namesOf}
 use Rattle.layout.specs.Papers.{known, paperOf, itemsOf}
 use Rattle.layout.specs.Record.{regroup, flatten, unflatten, allNumbers, allSlots}
 use Rattle.layout.specs.Laws.Papers.{few-slots}
@@ -32,7 +31,7 @@ use Rattle.scope.specs.Sheet.{decimal, line, rowText, itemsText, refusalText, f
 use Rattle.promises.specs.Reading.{Accepted≢Refused, Read, read-found, read-front}
 use Rattle.tables.specs.Lines.{spotAt, spots, spotsFrom, spotOf}
 use Rattle.tables.specs.Shapes.{itemsFrom, heldFrom}
-use Rattle.tables.specs.Laws.Spots.{Spots, spots-right}
+use Rattle.tables.specs.Laws.Spots.{spots-right}
 use Rattle.text.specs.Typing.{Types, types-as, types-behind, typed-front}
 use Rattle.text.specs.Longest.{sheet-longest}
 use Rattle.sheet.specs.Items.{named, namedAt}

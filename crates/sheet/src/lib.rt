@@ -3,7 +3,6 @@
 // Stands on reader for the record, on text for words and decimals, on angle, and on writer for its `deliver` alone.
 ghost use mathlib.Core.Path.{_≡_};
 ghost use mathlib.Core.Bool.{true};
-ghost use mathlib.Core.List.{_++_};
 ghost use Prim.Native.Nat.{_+_, _≤_};
 ghost use lib.Dec.{T};
 ghost use lib.ListN.{length, drop};

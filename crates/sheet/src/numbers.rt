@@ -3,7 +3,6 @@
 ghost use mathlib.Core.Path.{_≡_};
 ghost use mathlib.Core.List.{_++_};
 ghost use Prim.Native.Nat.{_+_, _-_, _*_, _≤_};
-ghost use lib.IntN.{pos, _+ℤ_};
 ghost use lib.ListN.{length, take, drop};
 ghost use Rattle.layout.specs.Names.{shown, angle, pressure, text};
 ghost use Rattle.layout.specs.Record.{numberAt};

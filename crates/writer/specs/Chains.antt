@@ -5,7 +5,7 @@ use mathlib.Core.List.{List, _∷_}
 use Prim.Native.Nat.{ℕ, zero, suc, _+_, _-_, _<_}
 use native.Mathlib.Omega.{arith}
 use borrow.Author.Tests.{eqb-false, ltb-true, lt-ltb, ne-eqb}
-use lib.Dec.{T, ltb, eqb, ltb→lt, eqb→eq, eqb·suc-zero}
+use lib.Dec.{T, ltb, eqb, ltb→lt, eqb·suc-zero}
 use lib.IntN.{ℤ}
 use lib.ListN.{length, take, drop}
 use Rattle.codec.specs.Pick.{pick}

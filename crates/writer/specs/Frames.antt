@@ -2,7 +2,7 @@
 use mathlib.Core.Path.{_≡_, refl, sym, ap, ap₂, _∙_, subst, subst₂}
 use mathlib.Core.Bool.{true}
 use mathlib.Core.List.{List, [], _∷_, _++_}
-use Prim.Native.Nat.{ℕ, suc, _+_, _%_, _≤_, _<_}
+use Prim.Native.Nat.{ℕ, suc, _+_, _%_, _≤_}
 use native.Mathlib.Nat.{mod-eq-of-lt, le-trans}
 use native.Mathlib.Omega.{arith}
 use lib.Dec.{T}
@@ -20,10 +20,10 @@ use Rattle.codec.specs.Laws.Longest.{field-size}
 use Rattle.layout.specs.declared.Record.{Record}
 use Rattle.layout.specs.Papers.{known, paperOf, itemsOf}
 use Rattle.layout.specs.Record.{regroup, unflatten, fitsPaper, contents}
-use Rattle.layout.specs.Laws.Papers.{few-items, few-octets}
+use Rattle.layout.specs.Laws.Papers.{few-octets}
 use Rattle.scope.specs.Writing.{writable, written}
 use Rattle.tables.specs.Lines.{spotAt, spotOf}
-use Rattle.tables.specs.Shapes.{rowOk, itemsFrom, heldFrom}
+use Rattle.tables.specs.Shapes.{itemsFrom, heldFrom}
 use Rattle.tables.specs.Laws.Spots.{Spots, spots-right}
 use Rattle.writer.specs.Laying.{Lays}
 use Rattle.codec.specs.Laws.Sets.{Put}

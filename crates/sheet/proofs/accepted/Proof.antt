@@ -1,7 +1,5 @@
 -- `sheet::accepted` meets its contract: the lines stand one behind the other. Assumes nothing.
-use mathlib.Core.Path.{refl}
 use borrow.Author.Needs.{needs}
-use denote.Ref.{now}
 use Rattle.tables.specs.Laws.Spots.{row-asks}
 use Rattle.sheet.specs.Whole.{record-typed}
 use Rattle.sheet.proofs.accepted.Statement.{statement}

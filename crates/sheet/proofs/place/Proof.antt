@@ -1,6 +1,5 @@
 -- `sheet::place` meets its contract. Assumes nothing.
 use mathlib.Core.Path.{ap, _∙_}
-use borrow.Author.Needs.{needs}
 use denote.Ref.{now}
 use Rattle.tables.specs.declared.Spot.{Spot}
 use Rattle.sheet.specs.Rows.{place-there, place-not}

@@ -8,7 +8,6 @@ use lib.Dec.{T, eqb, eqb→eq}
 use lib.IntN.{ℤ}
 use lib.ListN.{getD, take, drop}
 use lib.Seq.{drop-drop}
-use Rattle.codec.specs.Line.{Line, Held}
 use Rattle.codec.specs.Item.{slots}
 use Rattle.codec.specs.Field.{firstFlag, nextFlags}
 use Rattle.codec.specs.Laws.Tests.{and-l, and-r}

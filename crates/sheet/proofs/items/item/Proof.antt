@@ -1,7 +1,5 @@
 -- `sheet::items::item` meets its contract, by its shape. Assumes nothing.
-use Prim.Native.Nat.{_≤_}
 use native.Mathlib.Omega.{arith}
-use borrow.Author.Needs.{needs}
 use denote.Ref.{now}
 use mir.Facts.{fits-of-lt}
 use Rattle.tables.specs.Laws.Shapes.{shaped-well}

@@ -1,6 +1,6 @@
 -- `sheet::items::line` meets its contract. Assumes nothing.
 use mathlib.Core.Path.{ap}
-use Prim.Native.Nat.{_+_, _≤_}
+use Prim.Native.Nat.{_+_}
 use native.Mathlib.Omega.{arith}
 use denote.Ref.{now}
 use mir.Facts.{fits-of-lt}

@@ -1,8 +1,7 @@
 -- `sheet::items::span` meets its contract: no octet passed is a space. Assumes nothing.
-use mathlib.Core.Path.{_≡_, refl}
+use mathlib.Core.Path.{_≡_}
 use Prim.Native.Nat.{_+_, _-_, _≤_}
 use native.Mathlib.Omega.{arith}
-use borrow.Author.Tests.{eqb-true, eqb-false}
 use denote.Ref.{now}
 use lib.ListN.{length, drop}
 use Rattle.sheet.specs.Keys.{span}

@@ -1,6 +1,4 @@
 -- `sheet::numbers::is_mark` meets its contract. Assumes nothing.
-use mathlib.Core.Path.{refl}
-use borrow.Author.Tests.{lt-ltb, le-ltb}
 use Rattle.sheet.specs.Numbers.{mark-above, mark-below}
 use Rattle.sheet.proofs.numbers.is_mark.Statement.{statement}
 use Rattle.sheet.proofs.numbers.is_mark.Tie as tie
