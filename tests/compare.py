@@ -4,14 +4,12 @@
     rt check vectors && python3 tests/compare.py 1 60
     rt check records && python3 tests/compare.py 1 60 records
     rt check edits && python3 tests/compare.py 1 60 edits
+    rt check sheets && python3 tests/compare.py 1 60 sheets
 
-It runs outside `rt ci`. Each request is one of tests/vectors.py, tests/records.py or tests/edits.py, damaged at a few places; most fields keep a LEN
+It runs outside `rt ci`. Each request is one of tests/vectors.py, records.py, edits.py or sheets.py, damaged at a few places; most fields keep a LEN
 that is their length, so that they get past it, many a change is made where the record has something, and many an edit is of a field that stays.
 """
-import os
-import platform
 import random
-import shutil
 import subprocess
 import sys
 import time
@@ -19,20 +17,15 @@ from pathlib import Path
 
 import edits
 import records
+import sheets
 import vectors
-from fields import BUFFER
+from fields import BUFFER, UNKNOWN, good_field
+from papers import PAPERS
 from records import ROOM, any_change
+from reference import sheet
 from vectors import CHOOSE
 
-PROGRAMS = Path(__file__).resolve().parent.parent / "target" / "bin"
-KIT = Path(os.environ.get("RATTLE_HOME") or Path(shutil.which("rt")).resolve().parent.parent)
-
-
-def command(name):
-    """The program is for x86-64: elsewhere the kit's emulator runs it."""
-    tools = KIT / "on" / platform.machine() / "toolchain"
-    emulator = tools / "bin" / "qemu-x86_64"
-    return [str(emulator)] * emulator.exists() + [str(tools / "lib" / "ld-linux-x86-64.so.2"), "--library-path", str(tools / "lib"), str(PROGRAMS / name)]
+RUN = Path(__file__).resolve().parent.parent / "bin" / "run"
 
 
 def damaged(rng, field):
@@ -107,12 +100,31 @@ def asked_edit(rng, known):
     return another_room(rng, room), cat, field, listed, item, new
 
 
-ASKED = {"vectors": (vectors, asked_vector), "records": (records, asked_record), "edits": (edits, asked_edit)}
+def asked_sheet(rng, known):
+    """A known input or a right field, most often with its field damaged, or noise; the room most often near the sheet's length."""
+    _, given = rng.choice(known)
+    cat = rng.choice([*PAPERS, given[0] if given else rng.choice(UNKNOWN)])
+    field = good_field(cat, rng) if cat in PAPERS and rng.random() < 0.5 else given[1:61]
+    if rng.random() < 0.1:
+        field = rng.randbytes(rng.randrange(60))
+    elif rng.random() < 0.6:
+        field = damaged(rng, field)
+    given = bytes([cat]) + field if rng.random() < 0.99 else b""
+    room = len(sheet(given)) + rng.choice([-1, 0, 0, 0, 0, 0, 1, 20])
+    return room if rng.random() < 0.9 else rng.randrange(room + 1), given
+
+
+ASKED = {  # how a request is made, and how what is told is cut into answers
+    "vectors": (vectors, asked_vector, str.splitlines),
+    "records": (records, asked_record, str.splitlines),
+    "edits": (edits, asked_edit, str.splitlines),
+    "sheets": (sheets, asked_sheet, sheets.answers),
+}
 
 
 def batch(rng, known, name):
     """As many requests as the program's buffer holds."""
-    program, asked = ASKED[name]
+    program, asked, _ = ASKED[name]
     made, size = [], 0
     while size < BUFFER - 1000:
         made.append(asked(rng, known))
@@ -123,13 +135,13 @@ def batch(rng, known, name):
 def main():
     rng, end = random.Random(int(sys.argv[1])), time.time() + float(sys.argv[2])
     name = sys.argv[3] if len(sys.argv) > 3 else "vectors"
-    program, _ = ASKED[name]
+    program, _, answers = ASKED[name]
     known = list(dict.fromkeys(program.requests()))
     count = good = differences = 0
     while time.time() < end:
         made = batch(rng, known, name)
         asked = b"".join(map(program.packed, made))
-        told = subprocess.run(command(name), input=asked, capture_output=True, check=True).stdout.decode().splitlines()
+        told = answers(subprocess.run([str(RUN), name], input=asked, capture_output=True, check=True).stdout.decode())
         wanted = [program.line_of(request) for request in made]
         assert len(told) == len(wanted), (len(told), len(wanted))
         for request, answer, line in zip(made, told, wanted):

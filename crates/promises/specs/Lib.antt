@@ -1,4 +1,4 @@
--- What a reader wants to know of the whole: reading and writing (demand 2), views, edits (demand 3), refusals (demand 1), what the nearest angle is, and the octets of 01 computed.
+-- What a reader wants to know of the whole: reading and writing (demand 2), views, edits (demand 3), refusals (demand 1), what the nearest angle is, the sheet, and the octets of 01 computed.
 pub mod Reading
 pub mod Longest
 pub mod Views
@@ -9,3 +9,4 @@ pub mod Outputs
 pub mod RoundTrips
 pub mod Edited
 pub mod Angles
+pub mod Sheets

@@ -10,8 +10,7 @@ ghost use Rattle.codec.specs.Field.{flags};
 ghost use Rattle.layout.specs.Names.{text};
 ghost use Rattle.layout.specs.Papers.{known};
 ghost use Rattle.scope.specs.Sheet.{decimal, line, rowText, itemsText, refusalText, sheetOf};
-ghost use Rattle.scope.specs.Writing.{withRoom};
-ghost use Rattle.promises.specs.Outputs.{Leaves};
+ghost use Rattle.promises.specs.Sheets.{Listed};
 ghost use Rattle.tables.specs.Shapes.{spotOk, rowOk, itemsFrom, heldFrom};
 ghost use Rattle.text.specs.Typing.{Types};
 ghost use Rattle.sheet.specs.Items.{namedAt};
@@ -199,7 +198,7 @@ fn typed(input: &[u8], buf: &mut [u8; 4096]) -> usize
 
 // The sheet of an input into the front of an output, or 11. An input without an octet has a sheet too.
 pub fn sheet(input: &[u8], out: &mut [u8]) -> Answer
-    ensures { λ r. ⌜ Leaves (withRoom (length (now (out .entry))) (sheetOf (now (input .entry)))) (now (out .entry)) r (now (out .exit)) ⌝ }
+    ensures { λ r. ⌜ Listed (now (input .entry)) (now (out .entry)) r (now (out .exit)) ⌝ }
 {
     let mut buf = [0u8; 4096];
     let end = typed(input, &mut buf);

@@ -1,0 +1,105 @@
+#!/usr/bin/env python3
+"""Runs the built program `listing` on inputs of many lengths, whole and in pieces, and holds each sheet against tests/reference.py: one figure.
+
+    rt check listing && python3 tests/listing.py
+
+It runs outside `rt ci`, which gives the program 01's worked octets alone. A piece is written a moment after the one before it, so that most
+reads of the program get less than they ask for. Behind 256 octets the pipe stays open: the program must not wait for its end.
+"""
+import os
+import subprocess
+import sys
+import threading
+import time
+from pathlib import Path
+
+from fields import field_of, full_field, ones
+from papers import PAPERS
+from reference import sheet
+from sheets import WORKED, widest
+
+RUN = Path(__file__).resolve().parent.parent / "bin" / "run"
+MOMENT = 0.02  # seconds between two pieces
+LENGTHS = (0, 1, 2, 3, 7, 8, 38, 52, 53, 254, 255, 256, 257, 300)
+
+
+def inputs():
+    """(why, input) of each; every length, and what stands behind LEN and behind the first 256 octets."""
+    yield "worked", WORKED
+    yield "no octet", b""
+    for cat in (*PAPERS, 0, 255):
+        yield "a category alone", bytes([cat])
+        yield "two octets", bytes([cat, 2])
+        yield "no items", bytes([cat]) + field_of({})
+        whole = bytes([cat]) + full_field(cat if cat in PAPERS else 48, widest)
+        for count in LENGTHS:
+            yield "cut, or octets behind LEN", whole[:count].ljust(count, b"\xFF")
+            yield "the longest LEN", bytes([cat, 255]).ljust(count, b"\0")[:count]
+    for cat in PAPERS:
+        yield "more than a pipe holds", (bytes([cat]) + full_field(cat, ones)).ljust(100000, b"\x01")
+
+
+def same_front():
+    """Pairs of inputs with the same first 256 octets, which have one sheet; the reference is given what it does not look at too."""
+    for cat in PAPERS:
+        front = (bytes([cat]) + full_field(cat, widest)).ljust(256, b"\xEE")
+        refused = bytes([cat, 255, 0]).ljust(256, b"\0")
+        for given in (front, refused):
+            yield from ((given, given + behind) for behind in (b"\0", b"\xFF" * 44, WORKED, given))
+
+
+def in_pieces(octets, size):
+    return [octets[k:k + size] for k in range(0, len(octets), size)]
+
+
+def listed(pieces):
+    """What the program writes where its standard input is a pipe that gets these pieces one after the other."""
+    program = subprocess.Popen([str(RUN), "listing"], stdin=subprocess.PIPE, stdout=subprocess.PIPE)
+    enough = sum(map(len, pieces)) >= 256
+
+    def feed():
+        try:
+            for k, piece in enumerate(pieces):
+                time.sleep(MOMENT if k else 0)
+                os.write(program.stdin.fileno(), piece)
+        except BrokenPipeError:
+            pass  # the program has its 256 octets and is gone
+        if enough:
+            program.wait()
+        program.stdin.close()
+
+    feeder = threading.Thread(target=feed)
+    feeder.start()
+    told = program.stdout.read().decode()
+    feeder.join()
+    assert program.wait() == 0, pieces
+    return told
+
+
+def runs():
+    """(why, pieces) of each run of the program."""
+    for why, given in inputs():
+        yield why, [given]
+    for cat in PAPERS:
+        whole = (bytes([cat]) + full_field(cat, widest)).ljust(300, b"\xFF")
+        for size in (1, 7, 100, 128, 255, 256):
+            yield f"pieces of {size}", in_pieces(whole[:64] if size < 8 else whole, size)
+    yield "pieces of 1", in_pieces(WORKED, 1)
+    yield "a category, then the field", [WORKED[:1], WORKED[1:]]
+
+
+def main():
+    count = differences = 0
+    for why, pieces in [*runs(), *(("beyond 256", [given]) for pair in same_front() for given in pair)]:
+        told, wanted = listed(pieces), sheet(b"".join(pieces))
+        count += 1
+        if told != wanted:
+            differences += 1
+            print(why, b"".join(pieces).hex(" "), "gives", repr(told), "and should", repr(wanted))
+    assert all(sheet(front) == sheet(longer) for front, longer in same_front())
+    print(f"{count} runs, {differences} differences")
+    sys.exit(differences > 0)
+
+
+if __name__ == "__main__":
+    main()
