@@ -1,5 +1,5 @@
 // Takes the requests of the programs apart, and has the output that an operation is asked to write to.
-// Promises: the octets and counts that stand in a request, 0 behind its end, and an output of EE. Stands on say, for vectors, records and edits alike.
+// Promises: the octets and counts that stand in a request, 0 behind its end, and an output of EE. Stands on say, for vectors, records, edits and sheets alike.
 ghost use mathlib.Core.Path.{_≡_};
 ghost use Prim.Native.Nat.{_+_, _*_, _<_};
 ghost use lib.ListN.{length, getD, replicate};

@@ -1,5 +1,5 @@
 // Writes the answers of the operations to standard output, as words of a line: `ok` and what is answered, or `refused` with number and place.
-// Promises to end without a fault; of what is written nothing can be promised. Stands on layout, for edges, vectors, records and edits alike.
+// Promises to end without a fault; of what is written nothing can be promised. Stands on layout, for edges, vectors, records, edits and sheets alike.
 ghost use mathlib.Core.Path.{_≡_};
 ghost use Prim.Native.Nat.{_<_};
 use layout::Answer;
