@@ -4,7 +4,6 @@ use mathlib.Core.Bool.{Bool, true, false}
 use mathlib.Core.List.{List, [], _∷_, _++_, append-assoc, append-nil}
 use Prim.Native.Nat.{ℕ, zero, suc, _+_, _-_, _≤_, _<_}
 use native.Mathlib.Omega.{arith}
-use native.Mathlib.Numerals.{add-one}
 use lib.Dec.{T, eqb, leb→le, eqb→eq}
 use lib.IntN.{ℤ, pos}
 use lib.ListN.{length, getD, drop, set, replicate, length-append}
@@ -12,13 +11,14 @@ use lib.Seq.{sets}
 use Rattle.codec.specs.Codec.{Res, got, bad, opt}
 use Rattle.codec.specs.Line.{Held}
 use Rattle.codec.specs.Item.{slots, nothing, item}
-use Rattle.codec.specs.Field.{firstFlag, nextFlags, row, flags}
+use Rattle.codec.specs.Field.{firstFlag, nextFlags}
 use Rattle.codec.specs.Laws.Tests.{and-l, and-r}
 use Rattle.codec.specs.Laws.Long.{LongBy, many, long-shift, long-opt, long-item}
 use Rattle.layout.specs.Record.{allParts, allNumbers}
 use Rattle.tables.specs.Lines.{itemAt, spotAt}
 use Rattle.codec.specs.Laws.Sets.{sets-append}
 use Rattle.tables.specs.Shapes.{itemOn, spotOk, rowOk}
+use Rattle.tables.specs.Laws.Runs.{first-drop, next-drop}
 use Rattle.reader.specs.Steps.{run}
 use Rattle.reader.specs.declared.lines.Step.{Step}
 use Rattle.reader.specs.declared.lines.Step.the-variants.{Next, Refused}
@@ -107,20 +107,6 @@ pub record RowSoFar (l : List ℤ) (ps ss : List ℕ) (k n : ℕ) (ds xs : List 
   pub base : i < n → spotAt (k + i) .1 ≡ 0 + length (allNumbers vs)
   pub rest-ok : T (rowOk (k + i) (n - i))
 
-first-flag : (ds : List ℕ) (i : ℕ) → firstFlag (drop i ds) ≡ getD ds i 0
-unfolding firstFlag
-first-flag [] zero = refl
-first-flag [] (suc i) = refl
-first-flag (d ∷ ds) zero = refl
-first-flag (d ∷ ds) (suc i) = first-flag ds i
-
-next-flags : (ds : List ℕ) (i : ℕ) → nextFlags (drop i ds) ≡ drop (suc i) ds
-unfolding nextFlags
-next-flags [] zero = refl
-next-flags [] (suc i) = refl
-next-flags (d ∷ ds) zero = refl
-next-flags (d ∷ ds) (suc i) = next-flags ds i
-
 ahead-none : (x : Res Found) → x ≡ ahead [] [] x
 ahead-none (got f e) = refl
 ahead-none (bad e p) = refl
@@ -191,8 +177,8 @@ module _ (l : List ℤ) (ps ss : List ℕ) (k n : ℕ) (ds xs : List ℕ) where
         come-on : rowFrom k n ds xs 2 ≡ ahead (s .vs) (s .es) (goOn (placeRun (k + i) t xs at) (λ j. rowFrom (k + (i + 1)) (n - (i + 1)) (drop (i + 1) ds) xs j))
         unfolding rowFrom
         come-on =
-            let f : eqb (firstFlag (drop i ds)) 1 ≡ t = ap (λ d. eqb d 1) (first-flag ds i) ∙ sym et in
-            let g : nextFlags (drop i ds) ≡ drop (i + 1) ds = next-flags ds i ∙ ap (λ j. drop j ds) (sym (add-one i)) in
+            let f : eqb (firstFlag (drop i ds)) 1 ≡ t = ap (λ d. eqb d 1) (first-drop i ds) ∙ sym et in
+            let g : nextFlags (drop i ds) ≡ drop (i + 1) ds = next-drop i ds in
             let q : k + i + 1 ≡ k + (i + 1) = omega arith in
             s .come ∙ ap (λ j. ahead (s .vs) (s .es) (rowFrom (k + i) j (drop i ds) xs at)) here
             ∙ rw (f, g, q) refl

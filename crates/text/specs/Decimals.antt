@@ -93,7 +93,7 @@ front : (xs ys : List ℕ) → 0 < length xs → getD (xs ++ ys) 0 0 ≡ getD xs
 front [] ys h = absurd (omega arith)
 front (x ∷ xs) ys h = refl
 
-some-digit : (f n : ℕ) → 0 < length (digitsOf (suc f) n)
+pub some-digit : (f n : ℕ) → 0 < length (digitsOf (suc f) n)
 some-digit f n = cases (λ os. 0 < length os) f n (λ less. omega arith) (λ more. omega (arith, length-append (digitsOf f (n / 10)) ((48 + n % 10) ∷ [])))
 
 digits-there : (f n : ℕ) → 1 ≤ n → n < 10 ^ f → 0 < length (digitsOf f n)

@@ -9,7 +9,7 @@ use native.Mathlib.Omega.{arith}
 use borrow.Author.Tests.{lt-ltb, le-ltb, ltb-true}
 use lib.Dec.{ltb}
 use lib.IntN.{ℤ, pos, negsuc, natAbs}
-use lib.ListN.{length, set, take, drop, getD}
+use lib.ListN.{length, set, take, drop, getD, length-set}
 use lib.Seq.{sets, sets-eq, take-suc, take-all, take-append-seam}
 use lib.Signed.{mag, ltZ}
 use Rattle.codec.specs.Pick.{pick}
@@ -86,6 +86,29 @@ typed-front xs h {l} {m} {next} k a =
     let p : Put xs l 0 (typedAt l 0 xs) (placeAfter 0 xs) = typed-put xs l 0 (omega arith) in
     let e : next ≡ length xs = a .place ∙ p .place ∙ omega arith in
     (e, ap (λ j. take j m) e ∙ ap (take (length xs)) (a .octets ∙ p .octets ∙ sets-eq xs l 0 (omega arith)) ∙ take-append-seam xs (drop (0 + length xs) l))
+
+-- ---- what was typed lies in the buffer, whether it had room or not
+
+typed-length : (xs l : List ℕ) (at : ℕ) → length (typedAt l at xs) ≡ length l
+unfolding typedAt
+typed-length [] l at = refl
+typed-length (x ∷ xs) l at = by-room (ltb at 4_096) (typed-length xs (set l at x) (at + 1) ∙ length-set l at x)
+  where
+    by-room : (b : Bool) → length (typedAt (set l at x) (at + 1) xs) ≡ length l → length (pick b (typedAt (set l at x) (at + 1) xs) l) ≡ length l
+    by-room true h = h
+    by-room false h = refl
+
+place-within : (xs : List ℕ) (at : ℕ) → at ≤ 4_096 → placeAfter at xs ≤ 4_096
+unfolding placeAfter
+place-within [] at h = h
+place-within (x ∷ xs) at h = by-room (ltb at 4_096) refl (λ k. place-within xs (at + 1) k)
+  where
+    by-room : (b : Bool) → ltb at 4_096 ≡ b → (at + 1 ≤ 4_096 → placeAfter (at + 1) xs ≤ 4_096) → pick b (placeAfter (at + 1) xs) at ≤ 4_096
+    by-room true e f = f (omega (arith, ltb-true at 4_096 e))
+    by-room false e f = h
+
+pub types-within : {xs l : List ℕ} {at : ℕ} {m : List ℕ} {next : ℕ} → Types xs l at m next → length l ≡ 4_096 → at ≤ 4_096 → next ≤ length m
+types-within {xs} {l} {at} {m} {next} a k h = omega (arith, ap length (a .octets) ∙ typed-length xs l at, a .place, place-within xs at h)
 
 -- ---- the ways out of `octet`
 

@@ -1,11 +1,12 @@
-// Types the words of the sheet one behind the other into a buffer: each function puts its word at a place and answers the place behind it.
-// Promises: every octet of the buffer and the place, numbers in decimal as 01 has them; what has no room is left out, so that no caller has to count.
+// Types the words of the sheet and of answers one behind the other into a buffer: each function puts its word at a place and answers the place behind it.
+// Promises: every octet of the buffer and the place, numbers in decimal as 01 has them, octets in hex digits; what has no room is left out, so that no caller has to count.
 // Stands on scope's definition of the sheet.
 ghost use mathlib.Core.Path.{_≡_};
 ghost use mathlib.Core.List.{[], _∷_};
-ghost use Prim.Native.Nat.{_+_, _%_};
+ghost use Prim.Native.Nat.{_+_, _%_, _<_};
 ghost use Rattle.scope.specs.Sheet.{digitsOf, decimal, signedDecimal, line};
 ghost use Rattle.text.specs.Typing.{Types};
+ghost use Rattle.text.specs.Hex.{capital, pairText, hexText};
 
 // One octet. Where there is no room, nothing is put and the place stays.
 pub fn octet(o: u8, at: usize, buf: &mut [u8; 4096]) -> usize
@@ -68,6 +69,41 @@ pub fn signed(z: i64, at: usize, buf: &mut [u8; 4096]) -> usize
         return decimal((!z) as u64 + 1, next, &mut *buf);
     }
     decimal(z as u64, at, &mut *buf)
+}
+
+// A hex digit, in capitals.
+fn hex_digit(d: u8) -> u8
+    requires { ⌜ d < 16 ⌝ }
+    ensures { λ r. ⌜ r ≡ capital d ⌝ }
+{
+    if d < 10 {
+        return b'0' + d;
+    }
+    55 + d
+}
+
+// An octet as two hex digits.
+fn hex_pair(o: u8, at: usize, buf: &mut [u8; 4096]) -> usize
+    ensures { λ r. ⌜ Types (pairText o) (now (buf .entry)) at (now (buf .exit)) r ⌝ }
+{
+    let next = octet(hex_digit(o / 16), at, &mut *buf);
+    octet(hex_digit(o % 16), next, &mut *buf)
+}
+
+// Octets as pairs of hex digits; a `-` where there are none, so that a word always stands there.
+pub fn octets(s: &[u8], at: usize, buf: &mut [u8; 4096]) -> usize
+    ensures { λ r. ⌜ Types (hexText (now (s .entry))) (now (buf .entry)) at (now (buf .exit)) r ⌝ }
+{
+    if s.len() == 0 {
+        return octet(b'-', at, &mut *buf);
+    }
+    let mut next = at;
+    let mut i: usize = 0;
+    while i < s.len() {
+        next = hex_pair(s[i], next, &mut *buf);
+        i += 1;
+    }
+    next
 }
 
 // The line feed that ends a line.
