@@ -151,6 +151,9 @@ fn chained(
     item(keys, count, k, numbers, base, next, &mut *buf)
 }
 
+// Each item has a group of keys for each of its lines, ended by a space. The mark behind a key says what stands there: `=` one number, `@` a position, `>` an
+// altitude, `<` an offset, `?` a pressure, `:` a flag that is not listed.
+
 // The items of category 048 with the names of document 000, 2.3 to 2.7: MD5, M5N, M4E, RPC, ERR.
 fn item_048(
     k: usize,
