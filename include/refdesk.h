@@ -61,14 +61,109 @@ enum ref_which { REF_NEITHER = 0, REF_BASE = 1, REF_CORRECTION = 2 };
 
 /*
  * A record is an array of 87 numbers: the category; the items, laid out as the indicator (the first item has the highest of
- * 8 bits); the parts of the chain of each of 8 items; 77 numbers, each at the slot that it has in the layout of its
- * category (crates/layout/specs/Cat048.antt, Cat021.antt, Cat007.antt). What is absent has 0 parts and numbers 0.
+ * 8 bits); the parts of the chain of each of 8 items; 77 numbers, each at its slot, which docs/NUMBERS.md lists for each
+ * category and the enums below name. What is absent has 0 parts and numbers 0.
  */
 #define REF_RECORD_CAT 0
 #define REF_RECORD_ITEMS 1
 #define REF_RECORD_PARTS 2
 #define REF_RECORD_NUMBERS 10
 #define REF_RECORD_PLACES 87
+
+/* ---- slots: made by `python3 tests/slots.py write`, not by hand */
+
+/*
+ * The slot of each number in a record of a category. Its index in the record's array is REF_RECORD_NUMBERS + slot. A name
+ * with HAS is that of a presence flag, 1 if the subfield is there. docs/NUMBERS.md has bits, sign, limits, LSB and unit.
+ */
+enum ref_slot_048 {
+    REF_048_HAS_MD5_SUM = 0, REF_048_HAS_MD5_PMN = 1, REF_048_HAS_MD5_POS = 2, REF_048_HAS_MD5_GA = 3,
+    REF_048_HAS_MD5_EM1 = 4, REF_048_HAS_MD5_TOS = 5, REF_048_HAS_MD5_XP = 6,
+    REF_048_MD5_SUM_M5 = 7, REF_048_MD5_SUM_ID = 8, REF_048_MD5_SUM_DA = 9, REF_048_MD5_SUM_M1 = 10,
+    REF_048_MD5_SUM_M2 = 11, REF_048_MD5_SUM_M3 = 12, REF_048_MD5_SUM_MC = 13,
+    REF_048_MD5_PMN_PIN = 14, REF_048_MD5_PMN_NAV = 15, REF_048_MD5_PMN_NAT = 16, REF_048_MD5_PMN_MIS = 17,
+    REF_048_MD5_POS_LAT = 18, REF_048_MD5_POS_LON = 19,
+    REF_048_MD5_GA_RES = 20, REF_048_MD5_GA_GA = 21,
+    REF_048_MD5_EM1_V = 22, REF_048_MD5_EM1_G = 23, REF_048_MD5_EM1_L = 24, REF_048_MD5_EM1_EM1 = 25,
+    REF_048_MD5_TOS = 26,
+    REF_048_MD5_XP_XP = 27, REF_048_MD5_XP_X5 = 28, REF_048_MD5_XP_XC = 29, REF_048_MD5_XP_X3 = 30,
+    REF_048_MD5_XP_X2 = 31, REF_048_MD5_XP_X1 = 32,
+    REF_048_HAS_M5N_SUM = 33, REF_048_HAS_M5N_PMN = 34, REF_048_HAS_M5N_POS = 35, REF_048_HAS_M5N_GA = 36,
+    REF_048_HAS_M5N_EM1 = 37, REF_048_HAS_M5N_TOS = 38, REF_048_HAS_M5N_XP = 39,
+    REF_048_HAS_M5N_FOM = 40,
+    REF_048_M5N_SUM_M5 = 41, REF_048_M5N_SUM_ID = 42, REF_048_M5N_SUM_DA = 43, REF_048_M5N_SUM_M1 = 44,
+    REF_048_M5N_SUM_M2 = 45, REF_048_M5N_SUM_M3 = 46, REF_048_M5N_SUM_MC = 47,
+    REF_048_M5N_PMN_PIN = 48, REF_048_M5N_PMN_NOV = 49, REF_048_M5N_PMN_NO = 50,
+    REF_048_M5N_POS_LAT = 51, REF_048_M5N_POS_LON = 52,
+    REF_048_M5N_GA_RES = 53, REF_048_M5N_GA_GA = 54,
+    REF_048_M5N_EM1_V = 55, REF_048_M5N_EM1_G = 56, REF_048_M5N_EM1_L = 57, REF_048_M5N_EM1_EM1 = 58,
+    REF_048_M5N_TOS = 59,
+    REF_048_M5N_XP_XP = 60, REF_048_M5N_XP_X5 = 61, REF_048_M5N_XP_XC = 62, REF_048_M5N_XP_X3 = 63,
+    REF_048_M5N_XP_X2 = 64, REF_048_M5N_XP_X1 = 65,
+    REF_048_M5N_FOM = 66,
+    REF_048_M4E = 67,
+    REF_048_HAS_RPC_SCO = 68, REF_048_HAS_RPC_SCR = 69, REF_048_HAS_RPC_RW = 70, REF_048_HAS_RPC_AR = 71,
+    REF_048_RPC_SCO = 72,
+    REF_048_RPC_SCR = 73,
+    REF_048_RPC_RW = 74,
+    REF_048_RPC_AR = 75,
+    REF_048_ERR = 76
+};
+
+enum ref_slot_021 {
+    REF_021_BPS = 0,
+    REF_021_SELH_HRD = 1, REF_021_SELH_STAT = 2, REF_021_SELH_SELH = 3,
+    REF_021_NAV_AP = 4, REF_021_NAV_VN = 5, REF_021_NAV_AH = 6, REF_021_NAV_AM = 7, REF_021_NAV_MFM_EP = 8,
+    REF_021_NAV_MFM_VAL = 9,
+    REF_021_GAO_LATERAL = 10, REF_021_GAO_LONGITUDINAL = 11,
+    REF_021_SGV_STP = 12, REF_021_SGV_HTS = 13, REF_021_SGV_HTT = 14, REF_021_SGV_HRD = 15, REF_021_SGV_GSS = 16,
+    REF_021_SGV_HGT = 17,
+    REF_021_STA_ES = 18, REF_021_STA_UAT = 19, REF_021_STA_RCE_EP = 20, REF_021_STA_RCE_VAL = 21,
+    REF_021_STA_RRL_EP = 22, REF_021_STA_RRL_VAL = 23,
+    REF_021_STA_PS3_EP = 24, REF_021_STA_PS3_VAL = 25, REF_021_STA_TPW_EP = 26, REF_021_STA_TPW_VAL = 27,
+    REF_021_STA_TSI_EP = 28, REF_021_STA_TSI_VAL = 29, REF_021_STA_MUO_EP = 30, REF_021_STA_MUO_VAL = 31,
+    REF_021_STA_RWC_EP = 32, REF_021_STA_RWC_VAL = 33,
+    REF_021_STA_DAA_EP = 34, REF_021_STA_DAA_VAL = 35, REF_021_STA_DF17CA_EP = 36, REF_021_STA_DF17CA_VAL = 37,
+    REF_021_STA_SVH_EP = 38, REF_021_STA_SVH_VAL = 39, REF_021_STA_CATC_EP = 40, REF_021_STA_CATC_VAL = 41,
+    REF_021_STA_TAO_EP = 42, REF_021_STA_TAO_VAL = 43,
+    REF_021_TNH = 44,
+    REF_021_HAS_MES_SUM = 45, REF_021_HAS_MES_PNO = 46, REF_021_HAS_MES_EM1 = 47, REF_021_HAS_MES_XP = 48,
+    REF_021_HAS_MES_FOM = 49, REF_021_HAS_MES_M2 = 50,
+    REF_021_MES_SUM_M5 = 51, REF_021_MES_SUM_ID = 52, REF_021_MES_SUM_DA = 53, REF_021_MES_SUM_M1 = 54,
+    REF_021_MES_SUM_M2 = 55, REF_021_MES_SUM_M3 = 56, REF_021_MES_SUM_MC = 57, REF_021_MES_SUM_PO = 58,
+    REF_021_MES_PNO_PIN = 59, REF_021_MES_PNO_NO = 60,
+    REF_021_MES_EM1_V = 61, REF_021_MES_EM1_L = 62, REF_021_MES_EM1_EM1 = 63,
+    REF_021_MES_XP_XP = 64, REF_021_MES_XP_X5 = 65, REF_021_MES_XP_XC = 66, REF_021_MES_XP_X3 = 67,
+    REF_021_MES_XP_X2 = 68, REF_021_MES_XP_X1 = 69,
+    REF_021_MES_FOM = 70,
+    REF_021_MES_M2_V = 71, REF_021_MES_M2_L = 72, REF_021_MES_M2_M2 = 73
+};
+
+enum ref_slot_007 {
+    REF_007_TA_TAMAX = 0, REF_007_TA_TAMIN = 1,
+    REF_007_HAS_M5N_SUM = 2, REF_007_HAS_M5N_PMN = 3, REF_007_HAS_M5N_POS = 4, REF_007_HAS_M5N_GA = 5,
+    REF_007_HAS_M5N_EM1 = 6, REF_007_HAS_M5N_TOS = 7, REF_007_HAS_M5N_XP = 8,
+    REF_007_HAS_M5N_FOM = 9,
+    REF_007_M5N_SUM_M5 = 10, REF_007_M5N_SUM_ID = 11, REF_007_M5N_SUM_DA = 12, REF_007_M5N_SUM_M1 = 13,
+    REF_007_M5N_SUM_M2 = 14, REF_007_M5N_SUM_M3 = 15, REF_007_M5N_SUM_MC = 16,
+    REF_007_M5N_PMN_PIN = 17, REF_007_M5N_PMN_NOV = 18, REF_007_M5N_PMN_NO = 19,
+    REF_007_M5N_POS_LAT = 20, REF_007_M5N_POS_LON = 21,
+    REF_007_M5N_GA_RES = 22, REF_007_M5N_GA_GA = 23,
+    REF_007_M5N_EM1_V = 24, REF_007_M5N_EM1_G = 25, REF_007_M5N_EM1_L = 26, REF_007_M5N_EM1_EM1 = 27,
+    REF_007_M5N_TOS = 28,
+    REF_007_M5N_XP_XP = 29, REF_007_M5N_XP_X5 = 30, REF_007_M5N_XP_XC = 31, REF_007_M5N_XP_X3 = 32,
+    REF_007_M5N_XP_X2 = 33, REF_007_M5N_XP_X1 = 34,
+    REF_007_M5N_FOM = 35,
+    REF_007_M4E = 36,
+    REF_007_HAS_RPC_SCO = 37, REF_007_HAS_RPC_SCR = 38, REF_007_HAS_RPC_RW = 39, REF_007_HAS_RPC_AR = 40,
+    REF_007_RPC_SCO = 41,
+    REF_007_RPC_SCR = 42,
+    REF_007_RPC_RW = 43,
+    REF_007_RPC_AR = 44,
+    REF_007_ERR = 45
+};
+
+/* ---- end of the slots */
 
 /*
  * Reads a field of a category into a record, whose array must have 87 places. Octets behind LEN are not looked at.

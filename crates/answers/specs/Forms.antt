@@ -6,28 +6,29 @@ use Prim.Native.Nat.{ℕ, zero, suc, _+_, _-_, _≤_, _<_}
 use native.Mathlib.Numerals.{add-one}
 use native.Mathlib.Omega.{arith}
 use borrow.Author.Tests.{ltb-true, lt-ltb, le-ltb, not-true, not-false}
-use lib.Dec.{ltb, eqb}
+use lib.Dec.{ltb}
 use lib.IntN.{ℤ, pos}
 use lib.ListN.{length, take, set, length-take, drop-of-length-le}
 use lib.Seq.{length-take-le, sets, sets-eq}
 use lib.Signed.{mag, ltZ}
-use Rattle.codec.specs.Pick.{pick}
-use Rattle.codec.specs.Frame.{Outcome, accepted, refused}
-use Rattle.codec.specs.Change.{Change, remove, put}
-use Rattle.layout.specs.declared.Answer.{Answer}
+use Rattle.codec.specs.Change.{remove, put}
 use Rattle.layout.specs.declared.Record.{Record}
 use Rattle.layout.specs.declared.Reading.{Reading}
 use Rattle.scope.specs.Reading.{readOf}
 use Rattle.scope.specs.Writing.{writeOf}
-use Rattle.scope.specs.Views.{viewOf, partOf, chooseOf, chosenOf}
+use Rattle.scope.specs.Views.{viewOf, chooseOf}
 use Rattle.scope.specs.Desk.{editOf}
 use Rattle.text.specs.Decimals.{valueOf}
-use Rattle.text.specs.Typing.{Types, types-behind}
+use Rattle.text.specs.Typing.{Types}
+use Rattle.text.specs.Laws.Typing.{types-behind}
 use Rattle.words.specs.Lines.{wordOf, afterOf, firstWord, behind, restAfter}
-use Rattle.words.specs.Numbers.{isNumber, isSigned, signedValue, signedIn, signed-fits, signed-value, signed-small, numberIn, number-fits, number-value}
-use Rattle.words.specs.Octets.{isOctets, octetsOf, countIn, laidIn, count-fits, octets-front, count-length}
-use Rattle.answers.specs.Texts.{outputText, viewText, choiceText, readingText}
-use Rattle.answers.specs.Protocol.{badRequest, word, endsAfter, isOctet, isRoom, readForm, readAnswer, viewForm, viewed, viewAnswer, chooseForm, chosen, chooseAnswer, removeForm, removeAnswer, replaceForm, replaceAnswer, areAll, valuesOf, writeForm, recordIn, writeAnswer, requestAnswer, answerOf}
+use Rattle.words.specs.Numbers.{isNumber, isSigned, signedValue, signedIn, numberIn}
+use Rattle.words.specs.Laws.Numbers.{signed-fits, signed-value, signed-small, number-fits, number-value}
+use Rattle.words.specs.Octets.{isOctets, octetsOf, countIn, laidIn}
+use Rattle.words.specs.Laws.Octets.{count-fits, octets-front, count-length}
+use Rattle.answers.specs.Texts.{outputText, readingText}
+use Rattle.answers.specs.Protocol.{badRequest, word, endsAfter, isOctet, readForm, readAnswer, viewForm, viewed, viewAnswer, chooseForm, chosen, chooseAnswer, removeForm, removeAnswer, replaceForm, replaceAnswer, areAll, valuesOf, writeForm, recordIn, writeAnswer, requestAnswer, answerOf}
+use Rattle.layout.specs.Record.{SLOTS}
 
 -- ---- tests that hold together
 
@@ -262,7 +263,7 @@ same-record : {c c′ i i′ : ℕ} {p p′ : List ℕ} {n n′ : List ℤ} → 
     → _≡_ {A = Record} (record { cat = c; items = i; parts = p; numbers = n }) (record { cat = c′; items = i′; parts = p′; numbers = n′ })
 same-record ec ei ep en = rw (ec, ei, ep, en) refl
 
-module _ (s : List ℕ) {room cat items : ℕ} {p n e : Bool} (er : room ≡ numberIn 300 (word 0 s)) (ec : cat ≡ numberIn 255 (word 1 s)) (ei : items ≡ numberIn 255 (word 2 s)) (ep : p ≡ areAll isOctet 8 (restAfter 3 s)) (en : n ≡ areAll isSigned 77 (restAfter 8 (restAfter 3 s))) (ee : e ≡ endsAfter 77 (restAfter 8 (restAfter 3 s))) where
+module _ (s : List ℕ) {room cat items : ℕ} {p n e : Bool} (er : room ≡ numberIn 300 (word 0 s)) (ec : cat ≡ numberIn 255 (word 1 s)) (ei : items ≡ numberIn 255 (word 2 s)) (ep : p ≡ areAll isOctet 8 (restAfter 3 s)) (en : n ≡ areAll isSigned SLOTS (restAfter 8 (restAfter 3 s))) (ee : e ≡ endsAfter SLOTS (restAfter 8 (restAfter 3 s))) where
   abbrev pub writeTests : Bool
   writeTests = ltb room 301 && (ltb cat 256 && (ltb items 256 && (p && (n && e))))
 
@@ -275,7 +276,7 @@ module _ (s : List ℕ) {room cat items : ℕ} {p n e : Bool} (er : room ≡ num
   not-write f t = rw (sym write-form ∙ f) t
 
   pub is-write : writeTests ≡ true → {f : Record} → f .cat ≡ cat → f .items ≡ items → f .parts ≡ valuesOf valueOf 8 (restAfter 3 s)
-      → f .numbers ≡ valuesOf signedValue 77 (restAfter 8 (restAfter 3 s)) → (out : List ℕ) → room ≡ length out
+      → f .numbers ≡ valuesOf signedValue SLOTS (restAfter 8 (restAfter 3 s)) → (out : List ℕ) → room ≡ length out
       → {l m : List ℕ} {at last : ℕ} → Types (outputText (writeOf f (length out))) l at m last → Types (writeAnswer s) l at m last
   unfolding writeAnswer recordIn
   is-write t {f} fc fi fp fn out eo {l} {m} {at} {last} x =

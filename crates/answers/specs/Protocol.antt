@@ -1,13 +1,12 @@
--- The protocol of the co-process (DESIGN, section 6): the answer to a line, and to nothing but the line. The form of the whole line is judged first; a line that is no
+-- The protocol of the co-process: the answer to a line, and to nothing but the line. The form of the whole line is judged first; a line that is no
 -- request is answered `bad-request`.
-use mathlib.Core.Bool.{Bool, true, false, _&&_}
+use mathlib.Core.Bool.{Bool, true, _&&_}
 use mathlib.Core.List.{List, [], _∷_, _++_}
 use Prim.Native.Nat.{ℕ, zero, suc}
 use lib.Dec.{eqb}
-use lib.IntN.{ℤ}
 use lib.ListN.{length}
 use Rattle.codec.specs.Pick.{pick}
-use Rattle.codec.specs.Change.{Change, remove, put}
+use Rattle.codec.specs.Change.{remove, put}
 use Rattle.layout.specs.declared.Record.{Record}
 use Rattle.layout.specs.declared.View.{View}
 use Rattle.layout.specs.declared.Choice.{Choice}
@@ -21,6 +20,7 @@ use Rattle.words.specs.Lines.{wordOf, afterOf, firstWord, behind, restAfter, sa
 use Rattle.words.specs.Numbers.{isNumber, isSigned, signedValue}
 use Rattle.words.specs.Octets.{isOctets, octetsOf}
 use Rattle.answers.specs.Texts.{outputText, viewText, choiceText, readingText}
+use Rattle.layout.specs.Record.{SLOTS}
 
 unfoldable pub badRequest : List ℕ
 badRequest = text "bad-request"
@@ -124,7 +124,7 @@ unfolding areAll
 writeForm s =
     isRoom (word 0 s)
     && (isOctet (word 1 s)
-    && (isOctet (word 2 s) && (areAll isOctet 8 (restAfter 3 s) && (areAll isSigned 77 (restAfter 8 (restAfter 3 s)) && endsAfter 77 (restAfter 8 (restAfter 3 s))))))
+    && (isOctet (word 2 s) && (areAll isOctet 8 (restAfter 3 s) && (areAll isSigned SLOTS (restAfter 8 (restAfter 3 s)) && endsAfter SLOTS (restAfter 8 (restAfter 3 s))))))
 
 unfoldable pub recordIn : List ℕ → Record
 unfolding valuesOf
@@ -132,7 +132,7 @@ recordIn s = record {
   cat = valueOf (word 1 s);
   items = valueOf (word 2 s);
   parts = valuesOf valueOf 8 (restAfter 3 s);
-  numbers = valuesOf signedValue 77 (restAfter 8 (restAfter 3 s));
+  numbers = valuesOf signedValue SLOTS (restAfter 8 (restAfter 3 s));
 }
 
 unfoldable pub writeAnswer : List ℕ → List ℕ

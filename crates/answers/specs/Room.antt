@@ -1,43 +1,47 @@
 -- Every answer has room in the buffer of 4,096 octets, so that what was typed is the answer, whole.
-use mathlib.Core.Path.{_≡_, refl, sym, ap, _∙_}
-use mathlib.Core.Bool.{Bool, true, false, _&&_}
+use mathlib.Core.Path.{_≡_, refl, ap}
+use mathlib.Core.Bool.{Bool, true, false}
 use mathlib.Core.List.{List, [], _∷_, _++_}
-use Prim.Native.Nat.{ℕ, zero, suc, _+_, _-_, _*_, _≤_, _<_}
+use Prim.Native.Nat.{ℕ, zero, suc, _+_, _-_, _*_, _≤_}
 use native.Mathlib.Omega.{arith}
 use borrow.Author.Tests.{leb-true}
 use lib.Dec.{leb}
 use lib.IntN.{ℤ, pos, negsuc}
 use lib.ListN.{length, take, drop, length-append, length-take, length-drop}
 use Rattle.codec.specs.Pick.{pick}
-use Rattle.codec.specs.Frame.{Outcome, accepted, refused}
+use Rattle.codec.specs.Frame.{Outcome, accepted, refused, writeFrame}
 use Rattle.layout.specs.declared.Answer.the-variants.{Accepted, Refused}
 use Rattle.layout.specs.declared.View.{View}
 use Rattle.layout.specs.declared.View.the-variants.{Shown, Hidden}
 use Rattle.layout.specs.declared.Record.{Record}
 use Rattle.layout.specs.declared.Answer.{Answer}
 use Rattle.layout.specs.Names.{text}
-use Rattle.scope.specs.Sheet.{decimal, signedDecimal}
+use Rattle.scope.specs.Sheet.{signedDecimal}
 use Rattle.codec.specs.Field.{Contents, body}
-use Rattle.codec.specs.Frame.{writeFrame}
 use Rattle.codec.specs.Change.{Change, remove, put, change}
 use Rattle.layout.specs.declared.Which.{Which}
 use Rattle.layout.specs.declared.Which.the-variants.{Neither, Base, Correction}
-use Rattle.layout.specs.declared.Choice.{Choice}
 use Rattle.layout.specs.Answer.{whichNumber}
 use Rattle.layout.specs.Papers.{known, paperOf}
 use Rattle.scope.specs.Reading.{readOf, fieldOf}
-use Rattle.scope.specs.Writing.{withRoom, writable, written, writeOf}
+use Rattle.scope.specs.Outputs.{withRoom}
+use Rattle.scope.specs.Writing.{writable, written, writeOf}
 use Rattle.scope.specs.Views.{isItem, viewOf, partOf, chooseOf, sideOf, chosenOf}
 use Rattle.scope.specs.Desk.{listed, afresh, editIn, editOf}
-use Rattle.text.specs.Decimals.{decimal-most, valueOf}
-use Rattle.text.specs.Typing.{Types, typed-front}
+use Rattle.text.specs.Laws.Decimals.{decimal-most}
+use Rattle.text.specs.Decimals.{valueOf}
+use Rattle.text.specs.Typing.{Types}
+use Rattle.text.specs.Laws.Typing.{typed-front}
 use Rattle.text.specs.Hex.{pairText, pairsText, hexText}
-use Rattle.words.specs.Lines.{wordOf, afterOf, restAfter, same}
-use Rattle.words.specs.Numbers.{isNumber, number-most}
-use Rattle.words.specs.Octets.{isOctets, octetsOf, octets-few}
-use Rattle.answers.specs.Protocol.{badRequest, word, isOctet, isRoom, readForm, readAnswer, viewForm, viewAnswer, chooseForm, chooseAnswer, removeForm, removeAnswer, replaceForm, replaceAnswer, writeForm, recordIn, writeAnswer, requestAnswer, answerOf}
+use Rattle.words.specs.Lines.{wordOf, afterOf, same}
+use Rattle.words.specs.Numbers.{isNumber}
+use Rattle.words.specs.Laws.Numbers.{number-most}
+use Rattle.words.specs.Octets.{isOctets, octetsOf}
+use Rattle.words.specs.Laws.Octets.{octets-few}
+use Rattle.answers.specs.Protocol.{badRequest, word, isOctet, readForm, readAnswer, viewForm, viewAnswer, chooseForm, chooseAnswer, removeForm, removeAnswer, replaceForm, replaceAnswer, writeForm, recordIn, writeAnswer, requestAnswer, answerOf}
 use Rattle.answers.specs.Forms.{here, rest}
 use Rattle.answers.specs.Texts.{next, nextSigned, nextOctets, refusalText, outputText, shownText, viewText, choiceIn, choiceText, wordsText, recordText, readIn, readingText}
+use Rattle.layout.specs.Record.{SLOTS}
 
 -- ---- words
 
@@ -90,12 +94,12 @@ record-most : (f : Record) → length (recordText f) ≤ 1_904
 unfolding recordText
 record-most f =
     let p : length (wordsText next (take 8 (f .parts))) ≤ 8 * 21 = words-most next 21 next-most 8 (f .parts) in
-    let q : length (wordsText nextSigned (take 77 (f .numbers))) ≤ 77 * 22 = words-most nextSigned 22 signed-most 77 (f .numbers) in
+    let q : length (wordsText nextSigned (take SLOTS (f .numbers))) ≤ SLOTS * 22 = words-most nextSigned 22 signed-most SLOTS (f .numbers) in
     omega (
       arith,
-      length-append (next (f .cat)) (next (f .items) ++ (wordsText next (take 8 (f .parts)) ++ wordsText nextSigned (take 77 (f .numbers)))),
-      length-append (next (f .items)) (wordsText next (take 8 (f .parts)) ++ wordsText nextSigned (take 77 (f .numbers))),
-      length-append (wordsText next (take 8 (f .parts))) (wordsText nextSigned (take 77 (f .numbers))),
+      length-append (next (f .cat)) (next (f .items) ++ (wordsText next (take 8 (f .parts)) ++ wordsText nextSigned (take SLOTS (f .numbers)))),
+      length-append (next (f .items)) (wordsText next (take 8 (f .parts)) ++ wordsText nextSigned (take SLOTS (f .numbers))),
+      length-append (wordsText next (take 8 (f .parts))) (wordsText nextSigned (take SLOTS (f .numbers))),
       next-most (f .cat),
       next-most (f .items),
     )

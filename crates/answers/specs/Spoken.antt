@@ -1,33 +1,34 @@
 -- Lines and their answers computed from the protocol's definition: a request of each kind, accepted and refused, and ways of being none.
 use mathlib.Core.Path.{_≡_, refl}
 use mathlib.Core.List.{List, [], _∷_, map}
-use Prim.Native.Nat.{ℕ}
 use Prim.Native.String.{String}
-use Rattle.codec.specs.Signed.{toSigned, ofSigned, inSigned}
-use Rattle.codec.specs.Radix.{total, cut, join, digits}
+use Rattle.codec.specs.Signed.{toSigned, ofSigned}
+use Rattle.codec.specs.Radix.{total, cut, join}
 use Rattle.codec.specs.Codec.{number}
-use Rattle.codec.specs.Line.{toNum, ofNum, inNum, limit, widths, count, clear, nums, unnums, fitNums, inLimits, cells, line}
-use Rattle.codec.specs.Item.{slotsOf, slots, isZero, zeros, beside, fxOf, chain, isOne, subfields, item}
-use Rattle.codec.specs.Field.{isNil, isCons, uncons, firstFlag, nextFlags, row, allZero, indicator, body, texts, textsOf, before}
-use Rattle.codec.specs.Frame.{lenOf, settle, readFrame, writeFrame, okayFrame}
+use Rattle.codec.specs.Line.{toNum, ofNum, limit, widths, count, clear, nums, unnums, inLimits, cells, line}
+use Rattle.codec.specs.Item.{slotsOf, slots, beside, fxOf, chain, isOne, subfields, item}
+use Rattle.codec.specs.Field.{uncons, firstFlag, nextFlags, row, allZero, indicator, body, texts, textsOf, before}
+use Rattle.codec.specs.Meaning.{lenOf}
+use Rattle.codec.specs.Frame.{settle, readFrame, writeFrame}
 use Rattle.codec.specs.Change.{setFlag, setItem, blankAt, alone, putIn, change}
 use Rattle.layout.specs.Cat048.{cat048}
 use Rattle.layout.specs.Papers.{known, paperOf}
 use Rattle.layout.specs.Answer.{whichNumber}
 use Rattle.layout.specs.Names.{text}
-use Rattle.layout.specs.Record.{allParts, allNumbers, allSlots, flatten, regroup, unflatten, noParts, fitsPaper, contents}
-use Rattle.scope.specs.Reading.{fieldOf, noRecord, shown, readOf}
-use Rattle.scope.specs.Writing.{writable, written, withRoom, writeOf}
+use Rattle.layout.specs.Record.{allParts, allNumbers, allSlots, flatten}
+use Rattle.scope.specs.Reading.{fieldOf, shown, readOf}
+use Rattle.scope.specs.Outputs.{withRoom}
 use Rattle.scope.specs.Views.{isItem, present, standing, viewIn, viewOf, partOf, chooseIn, chooseOf, sideOf, chosenOf}
 use Rattle.scope.specs.Desk.{listed, afresh, editIn, editOf}
 use Rattle.scope.specs.Sheet.{digitsOf, decimal, signedDecimal}
-use Rattle.text.specs.Decimals.{valueFrom, valueOf, isDigit, areDigits}
+use Rattle.text.specs.Decimals.{valueFrom, valueOf, isDigit}
+use Rattle.text.specs.Laws.Decimals.{areDigits}
 use Rattle.text.specs.Hex.{capital, pairText, pairsText, hexText}
 use Rattle.words.specs.Lines.{wordLength, wordOf, afterOf, firstWord, behind, restAfter, same}
-use Rattle.words.specs.Numbers.{leads, goesOn, isNumber, isSigned, signedValue}
+use Rattle.words.specs.Numbers.{leads, goesOn, isNumber}
 use Rattle.words.specs.Octets.{hexDigit, areHex, isOctets, octetOf, octetsOf}
 use Rattle.answers.specs.Texts.{next, nextSigned, nextOctets, refusalText, outputText, shownText, viewText, choiceIn, choiceText, wordsText, recordText, readIn, readingText}
-use Rattle.answers.specs.Protocol.{badRequest, readForm, readAnswer, viewForm, viewAnswer, chooseForm, chooseAnswer, removeForm, removeAnswer, replaceForm, replaceAnswer, areAll, valuesOf, writeForm, recordIn, writeAnswer, requestAnswer, answerOf}
+use Rattle.answers.specs.Protocol.{badRequest, readForm, readAnswer, viewForm, viewAnswer, chooseForm, chooseAnswer, removeForm, removeAnswer, replaceForm, replaceAnswer, writeForm, writeAnswer, requestAnswer, answerOf}
 
 pub record Spoken : Type 0 where
   pub asked : String

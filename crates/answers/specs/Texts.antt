@@ -1,4 +1,4 @@
--- What each operation answers, in words (DESIGN, section 6): `ok` and what was asked for, or `refused`, number and place. Each word but the first stands behind one space.
+-- What each operation answers, in words: `ok` and what was asked for, or `refused`, number and place. Each word but the first stands behind one space.
 use mathlib.Core.List.{List, [], _∷_, _++_}
 use Prim.Native.Nat.{ℕ}
 use lib.IntN.{ℤ}
@@ -15,6 +15,7 @@ use Rattle.layout.specs.Answer.{whichNumber}
 use Rattle.layout.specs.Names.{text}
 use Rattle.scope.specs.Sheet.{decimal, signedDecimal}
 use Rattle.text.specs.Hex.{hexText}
+use Rattle.layout.specs.Record.{SLOTS}
 
 -- a number behind a space; 32 is the space
 unfoldable pub next : ℕ → List ℕ
@@ -72,7 +73,7 @@ wordsText word (x ∷ xs) = word x ++ wordsText word xs
 -- the record: `CAT ITEMS`, 8 parts, 77 numbers
 unfoldable pub recordText : Record → List ℕ
 unfolding wordsText
-recordText f = next (f .cat) ++ (next (f .items) ++ (wordsText next (take 8 (f .parts)) ++ wordsText nextSigned (take 77 (f .numbers))))
+recordText f = next (f .cat) ++ (next (f .items) ++ (wordsText next (take 8 (f .parts)) ++ wordsText nextSigned (take SLOTS (f .numbers))))
 
 -- `ok LEN` and the record
 unfoldable pub readIn : Answer → Record → List ℕ

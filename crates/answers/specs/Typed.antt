@@ -1,9 +1,8 @@
 -- The words of an answer typed one behind the other: one law for each way through the code that types them.
 use mathlib.Core.Path.{_≡_, refl, sym, ap, _∙_, subst}
 use mathlib.Core.List.{List, [], _∷_, _++_, append-assoc, append-nil}
-use Prim.Native.Nat.{ℕ, zero, suc, _+_, _≤_, _<_}
+use Prim.Native.Nat.{ℕ, suc, _+_, _≤_, _<_}
 use native.Mathlib.Omega.{arith}
-use lib.IntN.{ℤ, pos}
 use lib.ListN.{length, take, drop, getD}
 use lib.Seq.{take-suc, take-all, take-append-seam}
 use Rattle.codec.specs.Frame.{Outcome, accepted, refused}
@@ -13,13 +12,12 @@ use Rattle.layout.specs.declared.View.{View}
 use Rattle.layout.specs.declared.View.the-variants.{Shown, Hidden}
 use Rattle.layout.specs.declared.Choice.{Choice}
 use Rattle.layout.specs.declared.Reading.{Reading}
-use Rattle.layout.specs.declared.Record.{Record}
 use Rattle.layout.specs.Answer.{whichNumber}
 use Rattle.layout.specs.Names.{text}
-use Rattle.scope.specs.Writing.{answerOf, after}
-use Rattle.promises.specs.Outputs.{Leaves}
-use Rattle.text.specs.Typing.{Types, types-none, types-behind}
-use Rattle.answers.specs.Texts.{next, nextSigned, nextOctets, refusalText, outputText, leftText, shownText, viewText, choiceIn, choiceText, wordsText, recordText, readIn, readingText}
+use Rattle.scope.specs.Outputs.{answerOf, after, Leaves}
+use Rattle.text.specs.Typing.{Types}
+use Rattle.text.specs.Laws.Typing.{types-none, types-behind}
+use Rattle.answers.specs.Texts.{next, nextOctets, refusalText, outputText, leftText, shownText, viewText, choiceIn, choiceText, wordsText, recordText, readIn, readingText}
 
 -- ---- the ways out of `left`
 

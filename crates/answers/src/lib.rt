@@ -1,4 +1,4 @@
-// Answers a line of the co-process (DESIGN, section 6): the line is taken apart, the operation is called, and the answer is typed into a buffer.
+// Answers a line of the co-process: the line is taken apart, the operation is called, and the answer is typed into a buffer.
 // Promises: for every line the answer that the protocol defines. Stands on words and text, and on the operations, which it knows by their contracts.
 ghost use mathlib.Core.Path.{_≡_};
 ghost use mathlib.Core.Bool.{_&&_};
@@ -17,10 +17,13 @@ ghost use Rattle.text.specs.Typing.{Types};
 ghost use Rattle.answers.specs.Texts.{next, nextSigned, nextOctets, refusalText, leftText, outputText, shownText, viewText, choiceText, wordsText, recordText, readingText};
 ghost use Rattle.answers.specs.Protocol.{badRequest, word, endsAfter, viewed, chosen, readAnswer, viewAnswer, chooseAnswer, removeAnswer, replaceAnswer, writeAnswer, requestAnswer, answerOf};
 ghost use Rattle.answers.specs.Forms.{Takes};
+ghost use Rattle.layout.specs.Record.{SLOTS};
 use layout::Answer;
 use layout::Choice;
+use layout::Numbers;
 use layout::Reading;
 use layout::Record;
+use layout::SLOTS;
 use layout::View;
 use layout::Which;
 
@@ -410,10 +413,10 @@ fn no_parts() -> [u8; 8]
     [0; 8]
 }
 
-fn no_numbers() -> [i32; 77]
-    ensures { λ r. ⌜ 77 ≡ length r ⌝ }
+fn no_numbers() -> Numbers
+    ensures { λ r. ⌜ SLOTS ≡ length r ⌝ }
 {
-    [0; 77]
+    [0i32; SLOTS]
 }
 
 fn put_part(parts: &mut [u8; 8], at: usize, v: u8)
@@ -423,8 +426,8 @@ fn put_part(parts: &mut [u8; 8], at: usize, v: u8)
     parts[at] = v;
 }
 
-fn put_number(numbers: &mut [i32; 77], at: usize, v: i32)
-    requires { ⌜ at < 77 ⌝ }
+fn put_number(numbers: &mut Numbers, at: usize, v: i32)
+    requires { ⌜ at < SLOTS ⌝ }
     ensures { λ _. ⌜ now (numbers .exit) ≡ set (now (numbers .entry)) at v ⌝ }
 {
     numbers[at] = v;
@@ -446,10 +449,10 @@ fn parts_from(rest: &[u8], i: usize, parts: &mut [u8; 8]) -> bool
 }
 
 // The words of the numbers from a place on; whether all are signed numbers of 32 bits.
-fn numbers_from(rest: &[u8], i: usize, numbers: &mut [i32; 77]) -> bool
-    ensures { λ r. ⌜ Takes isSigned signedValue (77 - i) (now (rest .entry)) i (now (numbers .entry)) r (now (numbers .exit)) ⌝ }
+fn numbers_from(rest: &[u8], i: usize, numbers: &mut Numbers) -> bool
+    ensures { λ r. ⌜ Takes isSigned signedValue (SLOTS - i) (now (rest .entry)) i (now (numbers .entry)) r (now (numbers .exit)) ⌝ }
 {
-    if 77 <= i {
+    if SLOTS <= i {
         return true;
     }
     let z = words::signed(words::first(rest));
@@ -473,7 +476,7 @@ fn write(args: &[u8], buf: &mut [u8; 4096]) -> usize
     let are_parts = parts_from(chains, 0, &mut parts);
     let slots = words::behind_all(chains, 8);
     let are_numbers = numbers_from(slots, 0, &mut numbers);
-    let end = ends_after(slots, 77);
+    let end = ends_after(slots, SLOTS);
     if both(
         room < 301,
         both(

@@ -11,7 +11,12 @@ pub mod Frame
 pub mod View
 pub mod Longest
 pub mod Within
+pub mod Behind
 pub mod Change
 pub mod Flags
 pub mod Long
 pub mod Arms
+pub mod Printed
+pub mod Meaning
+pub mod Faults
+pub mod Alone

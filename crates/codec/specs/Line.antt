@@ -1,19 +1,14 @@
 -- A line of a layout: a chain part or a subfield, k octets laid out as pieces, high bits first (01, 'Item layouts').
 use mathlib.Core.Bool.{Bool, true, false, _&&_}
 use mathlib.Core.List.{List, [], _∷_}
-use Prim.Native.Nat.{ℕ, zero, suc, _+_, _*_, _^_, _/_, _%_}
+use Prim.Native.Nat.{ℕ, suc, _+_, _*_, _^_, _/_, _%_}
 use lib.Dec.{ltb, eqb}
 use lib.IntN.{ℤ, pos, negsuc}
 use lib.Signed.{leZ}
+pub use Rattle.codec.specs.Printed.{Kind, plain, signed, limited}
 use Rattle.codec.specs.Signed.{toSigned, ofSigned, inSigned}
 use Rattle.codec.specs.Radix.{total, cut, join, digits, eights}
 use Rattle.codec.specs.Codec.{Codec, via, guard, number}
-
--- how the bits of a number are read: as they stand, as two's complement, as two's complement with limits outside which 8 is given
-pub data Kind : Type 0 where
-  plain : Kind
-  signed : Kind
-  limited : ℤ → ℤ → Kind
 
 -- a run of bits: spare, or a number of so many bits
 pub data Piece : Type 0 where

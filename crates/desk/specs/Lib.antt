@@ -2,3 +2,4 @@
 pub mod Asking
 pub mod Splicing
 pub mod Edits
+pub mod Laws

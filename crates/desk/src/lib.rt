@@ -2,68 +2,44 @@
 // Promises: `remove` and `replace` answer and leave what 01 defines, for every input: the field written afresh with that one item changed, or a refusal that writes nothing.
 // Stands on reader and writer, which it knows by their contracts.
 ghost use mathlib.Core.Path.{_≡_};
-ghost use mathlib.Core.List.{List};
 ghost use Prim.Native.Nat.{_+_, _-_, _≤_, _<_};
 ghost use lib.ListN.{length, set};
 ghost use lib.Seq.{sets};
 ghost use Rattle.codec.specs.Change.{remove, put};
-ghost use Rattle.scope.specs.Writing.{withRoom};
-ghost use Rattle.promises.specs.Outputs.{Leaves};
-ghost use Rattle.promises.specs.Edited.{Edited};
+ghost use Rattle.scope.specs.Outputs.{withRoom, Leaves};
+ghost use Rattle.scope.specs.Desk.{Edited};
 ghost use Rattle.desk.specs.Asking.{askedOf, acceptedIs, rightOf};
 ghost use Rattle.desk.specs.Splicing.{spliceOf};
 ghost use Rattle.desk.specs.Edits.{allowedOf, Exchangeable, exchangeOf};
 use layout::Answer;
-use reader::Surveyed;
+use layout::Surveyed;
 
-fn wide(o: u8) -> usize
-    ensures { λ r. ⌜ r ≡ o ⌝ }
+// The index of an item; items are counted from 1.
+fn index(item: u8) -> usize
+    ensures { λ r. ⌜ r ≡ item - 1 ⌝ }
 {
-    o as usize
+    leaves::less(leaves::wide(item), 1)
 }
 
 // 12 for no item of the category, 13 for one off the slot's list, else 0.
 fn asked(cat: u8, list: u8, item: u8) -> u8
     ensures { λ r. ⌜ r ≡ askedOf cat list item ⌝ }
 {
-    let i = wide(item);
-    let n = layout::items_of(cat);
-    if i == 0 {
-        return 12;
+    if layout::is_item(cat, item) {
+        if layout::present(list, index(item)) {
+            return 0;
+        }
+        return 13;
     }
-    if n < i {
-        return 12;
-    }
-    if layout::present(list, i - 1) {
-        return 0;
-    }
-    13
-}
-
-fn octet(n: usize) -> u8
-    requires { ⌜ n ≤ 255 ⌝ }
-    ensures { λ r. ⌜ r ≡ n ⌝ }
-{
-    n as u8
-}
-
-fn put_octet(octets: &mut [u8; 255], at: usize, o: u8)
-    requires { ⌜ at < 255 ⌝ }
-    ensures { λ _. ⌜ now (octets .exit) ≡ set (now (octets .entry)) at o ⌝ }
-{
-    octets[at] = o;
+    12
 }
 
 // Octets into an array from a place on.
-fn paste(from: &[u8], at: usize, octets: &mut [u8; 255])
-    requires { ⌜ at + length (now from) ≤ 255 ⌝ }
+fn paste(from: &[u8], at: usize, octets: &mut [u8])
+    requires { ⌜ at + length (now from) ≤ length (now octets) ⌝ }
     ensures { λ _. ⌜ now (octets .exit) ≡ sets (now (octets .entry)) at (now (from .entry)) ⌝ }
 {
-    let mut i: usize = 0;
-    while i < from.len() {
-        put_octet(&mut *octets, at + i, from[i]);
-        i += 1;
-    }
+    bytes::copy(from, &mut octets[at..]);
 }
 
 fn is_accepted(a: Answer) -> bool
@@ -87,7 +63,7 @@ fn right(cat: u8, i: usize, new: &[u8]) -> bool
         return false;
     }
     let mut octets = [0u8; 255];
-    octets[0] = octet(n + 2);
+    octets[0] = leaves::octet(n + 2);
     octets[1] = layout::with_item(0, i);
     paste(new, 2, &mut octets);
     let found = reader::survey(cat, &octets[..n + 2]);
@@ -102,7 +78,7 @@ fn spliced(field: &[u8], items: u8, from: usize, to: usize, new: &[u8], out: &mu
 {
     let n = from + new.len() + (field.len() - to);
     let mut octets = [0u8; 255];
-    octets[0] = octet(n);
+    octets[0] = leaves::octet(n);
     octets[1] = items;
     paste(&field[2..from], 2, &mut octets);
     paste(new, from, &mut octets);
@@ -144,20 +120,10 @@ fn exchanged(
     requires { ⌜ Exchangeable (now field) len starts item (now new) ⌝ }
     ensures { λ r. ⌜ Leaves (withRoom (length (now (out .entry))) (exchangeOf items (now (field .entry)) len starts item (now (new .entry)))) (now (out .entry)) r (now (out .exit)) ⌝ }
 {
-    let i = wide(item);
+    let i = leaves::wide(item);
     let from = starts[i - 1];
     let to = starts[i];
     spliced(&field[..len], items, from, to, new, &mut *out)
-}
-
-// The index of an item; items are counted from 1.
-fn index(item: u8) -> usize
-    ensures { λ r. ⌜ r ≡ item - 1 ⌝ }
-{
-    if 0 < item {
-        return wide(item) - 1;
-    }
-    0
 }
 
 // An item removed; an absent one leaves the field itself.

@@ -1,8 +1,7 @@
 -- What follows from the definitions: what a word tells, that every place and length has room in it, what the code's steps leave.
-pub mod Words
+pub mod Packed
 pub mod Fits
 pub mod Copies
 pub mod Octets
 pub mod Arrays
 pub mod Exact
-pub mod Trips

@@ -1,5 +1,4 @@
 -- What crosses to a program in C: the word that answers, the array that a record is, and what each exported function answers and leaves.
-pub mod Words
+pub mod Packed
 pub mod Arrays
 pub mod Laws
-pub mod Unique

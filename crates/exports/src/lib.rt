@@ -8,30 +8,30 @@ ghost use lib.ListN.{length};
 ghost use Rattle.codec.specs.Change.{remove, put};
 ghost use Rattle.layout.specs.Answer.{placeOf, lengthOf, viewPlace, viewLength, whichNumber};
 ghost use Rattle.scope.specs.Reading.{readOf};
-ghost use Rattle.scope.specs.Writing.{withRoom, answerOf, after};
+ghost use Rattle.scope.specs.Outputs.{withRoom, Leaves};
 ghost use Rattle.scope.specs.Sheet.{sheetOf};
 ghost use Rattle.scope.specs.Views.{viewOf, chooseOf};
 ghost use Rattle.scope.specs.Desk.{editOf};
-ghost use Rattle.promises.specs.Outputs.{Leaves};
-ghost use Rattle.exports.specs.Words.{wordOf, Fit, answerWord, sideWord, viewWord, choiceWord};
-ghost use Rattle.exports.specs.Arrays.{arrayOf, fillAnswer, filledBy, isOctet, areOctets, octetOf, recordOf, writeArray};
+ghost use Rattle.exports.specs.Packed.{wordOf, Fit, answerWord, sideWord, viewWord, choiceWord, Hands};
+ghost use Rattle.exports.specs.Arrays.{PLACES, arrayOf, Fills, isOctet, areOctets, octetOf, ofArray, writeArray};
 use layout::Answer;
 use layout::Record;
+use layout::SLOTS;
 use layout::View;
 use layout::Which;
 
 // The places of a record's array.
-const PLACES: usize = 87;
+const PLACES: usize = 10 + SLOTS;
 
 // Four numbers of 16 bits each, the refusal's number highest.
-fn word(number: u8, which: u8, place: usize, length: usize) -> u64
-    requires { ⌜ Fit place length ⌝ }
-    ensures { λ r. ⌜ r ≡ wordOf number which place length ⌝ }
+fn word(number: u8, which: u8, place: usize, size: usize) -> u64
+    requires { ⌜ Fit place size ⌝ }
+    ensures { λ r. ⌜ r ≡ wordOf number which place size ⌝ }
 {
     (number as u64) * 281474976710656
         + (which as u64) * 4294967296
         + (place as u64) * 65536
-        + (length as u64)
+        + (size as u64)
 }
 
 fn answer_word(a: Answer) -> u64
@@ -139,7 +139,7 @@ fn copy(from: &[i32], to: &mut [i32])
 
 // A record into its array.
 fn fill(kept: Record, out: &mut [i32])
-    requires { ⌜ length (now out) ≡ 87 ⌝ }
+    requires { ⌜ length (now out) ≡ PLACES ⌝ }
     ensures { λ _. ⌜ now (out .exit) ≡ arrayOf kept ⌝ }
 {
     let parts = kept.parts;
@@ -152,11 +152,11 @@ fn fill(kept: Record, out: &mut [i32])
 
 // The record of an array.
 fn record_of(a: &[i32]) -> Record
-    requires { ⌜ length (now a) ≡ 87 ⌝ }
-    ensures { λ r. ⌜ r ≡ recordOf (now (a .entry)) ⌝ }
+    requires { ⌜ length (now a) ≡ PLACES ⌝ }
+    ensures { λ r. ⌜ r ≡ ofArray (now (a .entry)) ⌝ }
 {
     let mut parts = [0u8; 8];
-    let mut numbers = [0i32; 77];
+    let mut numbers = [0i32; SLOTS];
     narrow(&a[2..10], &mut parts[..]);
     copy(&a[10..], &mut numbers[..]);
     Record {
@@ -186,8 +186,7 @@ fn write_array(a: &[i32], out: &mut [u8]) -> Answer
 // The field's record into an array of 87; LEN is the length that is answered.
 #[no_mangle]
 pub extern "C" fn ref_read(cat: u8, field: &[u8], out: &mut [i32]) -> u64
-    ensures { λ r. ⌜ r ≡ answerWord (fillAnswer (length (now (out .entry))) (readOf cat (now (field .entry)) .answer)) ⌝ }
-    ensures array { λ _. ⌜ now (out .exit) ≡ filledBy (fillAnswer (length (now (out .entry))) (readOf cat (now (field .entry)) .answer)) (readOf cat (now (field .entry)) .kept) (now (out .entry)) ⌝ }
+    ensures { λ r. ⌜ Fills (readOf cat (now (field .entry))) (now (out .entry)) r (now (out .exit)) ⌝ }
 {
     let found = reader::read(cat, field);
     let a = found.answer;
@@ -205,8 +204,7 @@ pub extern "C" fn ref_read(cat: u8, field: &[u8], out: &mut [i32]) -> u64
 // The field of a record's array, into the front of the output.
 #[no_mangle]
 pub extern "C" fn ref_write(a: &[i32], out: &mut [u8]) -> u64
-    ensures { λ r. ⌜ r ≡ answerWord (answerOf (writeArray (now (a .entry)) (length (now (out .entry))))) ⌝ }
-    ensures octets { λ _. ⌜ now (out .exit) ≡ after (writeArray (now (a .entry)) (length (now (out .entry)))) (now (out .entry)) ⌝ }
+    ensures { λ r. ⌜ Hands (writeArray (now (a .entry)) (length (now (out .entry)))) (now (out .entry)) r (now (out .exit)) ⌝ }
 {
     let done = write_array(a, &mut *out);
     answer_word(done)
@@ -235,8 +233,7 @@ pub extern "C" fn ref_choose(cat: u8, base: &[u8], correction: &[u8], item: u8) 
 // A field without an item, into the front of the output.
 #[no_mangle]
 pub extern "C" fn ref_remove(cat: u8, field: &[u8], list: u8, item: u8, out: &mut [u8]) -> u64
-    ensures { λ r. ⌜ r ≡ answerWord (answerOf (editOf cat (now (field .entry)) list item remove (length (now (out .entry))))) ⌝ }
-    ensures octets { λ _. ⌜ now (out .exit) ≡ after (editOf cat (now (field .entry)) list item remove (length (now (out .entry)))) (now (out .entry)) ⌝ }
+    ensures { λ r. ⌜ Hands (editOf cat (now (field .entry)) list item remove (length (now (out .entry)))) (now (out .entry)) r (now (out .exit)) ⌝ }
 {
     let done = desk::remove(cat, field, list, item, &mut *out);
     answer_word(done)
@@ -252,8 +249,7 @@ pub extern "C" fn ref_replace(
     new: &[u8],
     out: &mut [u8],
 ) -> u64
-    ensures { λ r. ⌜ r ≡ answerWord (answerOf (editOf cat (now (field .entry)) list item (put (now (new .entry))) (length (now (out .entry))))) ⌝ }
-    ensures octets { λ _. ⌜ now (out .exit) ≡ after (editOf cat (now (field .entry)) list item (put (now (new .entry))) (length (now (out .entry)))) (now (out .entry)) ⌝ }
+    ensures { λ r. ⌜ Hands (editOf cat (now (field .entry)) list item (put (now (new .entry))) (length (now (out .entry)))) (now (out .entry)) r (now (out .exit)) ⌝ }
 {
     let done = desk::replace(cat, field, list, item, new, &mut *out);
     answer_word(done)
@@ -262,8 +258,7 @@ pub extern "C" fn ref_replace(
 // The sheet of a category octet and a field, into the front of the output.
 #[no_mangle]
 pub extern "C" fn ref_sheet(input: &[u8], out: &mut [u8]) -> u64
-    ensures { λ r. ⌜ r ≡ answerWord (answerOf (withRoom (length (now (out .entry))) (sheetOf (now (input .entry))))) ⌝ }
-    ensures octets { λ _. ⌜ now (out .exit) ≡ after (withRoom (length (now (out .entry))) (sheetOf (now (input .entry)))) (now (out .entry)) ⌝ }
+    ensures { λ r. ⌜ Hands (withRoom (length (now (out .entry))) (sheetOf (now (input .entry)))) (now (out .entry)) r (now (out .exit)) ⌝ }
 {
     let done = sheet::sheet(input, &mut *out);
     answer_word(done)

@@ -1,242 +1,104 @@
--- Category 021: EUROCONTROL-SPEC-0149-12-A, Reserved Expansion Field, edition 1.5 (document 003). Each list stands as its section prints it,
--- high bits first, with the section's name of each number behind it.
+-- Category 021: EUROCONTROL-SPEC-0149-12-A, Reserved Expansion Field, edition 1.5 (document 003). Each list stands as
+-- its section prints it, by the printed numbers of the bits.
 use mathlib.Core.List.{List, [], _∷_}
-use Prim.Native.Nat.{ℕ}
-use Rattle.codec.specs.Line.{Piece, spare, Line}
-use Rattle.codec.specs.Item.{Item, chained, single}
-use Rattle.layout.specs.Words.{bit, bits, part, sub, whole}
+use Prim.Native.Nat.{_^_}
+use Rattle.codec.specs.Item.{Item}
+use Rattle.codec.specs.Printed.{spares, Structure, Entry, compound, fixed}
+use Rattle.codec.specs.Made.{made}
+use Rattle.layout.specs.Notation.{bit, bits, spareBit, _LSB_over_of_, _minus_, part, sub}
 
--- ---- 2.3 Barometric Pressure Setting. LSB 0.1 hPa, minus 800 hPa
+-- ---- 2.3 Barometric Pressure Setting
 
-abbrev pub BPS : Item
-BPS =
-    single
-    (whole 2
-    (spare 4
-    ∷ bits 12  -- BPS
-    ∷ []))
+abbrev pub BPS : Entry
+BPS = fixed (sub "BPS" 2 (spares 16 13 ∷ bits 12 1 "BPS" LSB 1 over 10 of "hPa" minus 800 ∷ []))
 
--- ---- 2.4 Selected Heading
+-- ---- 2.4 Selected Heading. "LSB = 0.703125", printed without a unit
 
-abbrev pub SelH : Item
-SelH =
-    single
-    (whole 2
-    (spare 4
-    ∷ bit  -- HRD
-    ∷ bit  -- Stat
-    ∷ bits 10  -- SelH
-    ∷ []))
+abbrev pub SelH : Entry
+SelH = fixed (sub "SelH" 2 (spares 16 13 ∷ bit 12 "HRD" ∷ bit 11 "Stat"
+    ∷ bits 10 1 "SelH" LSB 703_125 over 1_000_000 of "" ∷ []))
 
 -- ---- 2.5 Navigation Mode
 
-abbrev pub NAV : Item
-NAV =
-    single
-    (whole 1
-    (bit  -- AP
-    ∷ bit  -- VN
-    ∷ bit  -- AH
-    ∷ bit  -- AM
-    ∷ bit  -- MFM#EP
-    ∷ bit  -- MFM#VAL
-    ∷ spare 2
-    ∷ []))
+abbrev pub NAV : Entry
+NAV = fixed (sub "NAV" 1 (bit 8 "AP" ∷ bit 7 "VN" ∷ bit 6 "AH" ∷ bit 5 "AM" ∷ bit 4 "MFM#EP" ∷ bit 3 "MFM#VAL"
+    ∷ spares 2 1 ∷ []))
 
 -- ---- 2.6 GPS Antenna Offset
 
-abbrev pub GAO : Item
-GAO =
-    single
-    (whole 1
-    (bits 3  -- Lateral
-    ∷ bits 5  -- Longitudinal
-    ∷ []))
+abbrev pub GAO : Entry
+GAO = fixed (sub "GAO" 1 (bits 8 6 "Lateral" LSB 2 over 1 of "m" ∷ bits 5 1 "Longitudinal" LSB 2 over 1 of "m" ∷ []))
 
 -- ---- 2.7 Surface Ground Vector: a primary subfield of two octets, and the first extension
 
-abbrev vector : Line
-vector =
-    part 2
-    (bit  -- STP
-    ∷ bit  -- HTS
-    ∷ bit  -- HTT
-    ∷ bit  -- HRD
-    ∷ bits 11  -- GSS
-    ∷ [])
-
-abbrev heading : Line
-heading =
-    part 1
-    (bits 7  -- HGT
-    ∷ [])
-
-abbrev pub SGV : Item
-SGV = chained vector (heading ∷ []) []
+abbrev pub SGV : Entry
+SGV =
+    compound "SGV"
+    (part 2 (bit 16 "STP" ∷ bit 15 "HTS" ∷ bit 14 "HTT" ∷ bit 13 "HRD"
+    ∷ bits 12 2 "GSS" LSB 125 over 1_000 of "kt" ∷ []))
+    (part 1 (bits 8 2 "HGT" LSB 28_125 over 10_000 of "degrees" ∷ []) ∷ [])
+    []
 
 -- ---- 2.8 Aircraft Status: a primary subfield and five extensions
 
--- Primary Subfield
-abbrev status : Line
-status =
-    part 1
-    (bit  -- ES
-    ∷ bit  -- UAT
-    ∷ bit  -- RCE#EP
-    ∷ bits 2  -- RCE#VAL
-    ∷ bit  -- RRL#EP
-    ∷ bit  -- RRL#VAL
+abbrev pub STA : Entry
+STA =
+    compound "STA"
+    (part 1 (bit 8 "ES" ∷ bit 7 "UAT" ∷ bit 6 "RCE#EP" ∷ bits 5 4 "RCE#VAL" ∷ bit 3 "RRL#EP" ∷ bit 2 "RRL#VAL" ∷ []))
+    (part 1 (bit 8 "PS3#EP" ∷ bits 7 5 "PS3#VAL" ∷ bit 4 "TPW#EP" ∷ bits 3 2 "TPW#VAL" ∷ [])
+    ∷ part 1
+    (bit 8 "TSI#EP" ∷ bits 7 6 "TSI#VAL" ∷ bit 5 "MUO#EP" ∷ bit 4 "MUO#VAL" ∷ bit 3 "RWC#EP" ∷ bit 2 "RWC#VAL" ∷ [])
+    ∷ part 1 (bit 8 "DAA#EP" ∷ bits 7 6 "DAA#VAL" ∷ bit 5 "DF17CA#EP" ∷ bits 4 2 "DF17CA#VAL" ∷ [])
+    ∷ part 1 (bit 8 "SVH#EP" ∷ bits 7 6 "SVH#VAL" ∷ bit 5 "CATC#EP" ∷ bits 4 2 "CATC#VAL" ∷ [])
+    ∷ part 1 (bit 8 "TAO#EP" ∷ bits 7 3 "TAO#VAL" ∷ spareBit 2 ∷ [])
     ∷ [])
+    []
 
--- First Extension: Additional Target Characteristics
-abbrev first : Line
-first =
-    part 1
-    (bit  -- PS3#EP
-    ∷ bits 3  -- PS3#VAL
-    ∷ bit  -- TPW#EP
-    ∷ bits 2  -- TPW#VAL
-    ∷ [])
+-- ---- 2.9 True North Heading
 
--- Second Extension: Additional Target Characteristics
-abbrev second : Line
-second =
-    part 1
-    (bit  -- TSI#EP
-    ∷ bits 2  -- TSI#VAL
-    ∷ bit  -- MUO#EP
-    ∷ bit  -- MUO#VAL
-    ∷ bit  -- RWC#EP
-    ∷ bit  -- RWC#VAL
-    ∷ [])
-
--- Third Extension: Additional Target Characteristics
-abbrev third : Line
-third =
-    part 1
-    (bit  -- DAA#EP
-    ∷ bits 2  -- DAA#VAL
-    ∷ bit  -- DF17CA#EP
-    ∷ bits 3  -- DF17CA#VAL
-    ∷ [])
-
--- Fourth Extension: Collision Avoidance Capabilities
-abbrev fourth : Line
-fourth =
-    part 1
-    (bit  -- SVH#EP
-    ∷ bits 2  -- SVH#VAL
-    ∷ bit  -- CATC#EP
-    ∷ bits 3  -- CATC#VAL
-    ∷ [])
-
--- Fifth Extension: Additional Target Characteristics
-abbrev fifth : Line
-fifth =
-    part 1
-    (bit  -- TAO#EP
-    ∷ bits 5  -- TAO#VAL
-    ∷ spare 1
-    ∷ [])
-
-abbrev pub STA : Item
-STA = chained status (first ∷ second ∷ third ∷ fourth ∷ fifth ∷ []) []
-
--- ---- 2.9 True North Heading. LSB 360°/2^16
-
-abbrev pub TNH : Item
-TNH =
-    single
-    (whole 2
-    (bits 16  -- True North Heading
-    ∷ []))
+abbrev pub TNH : Entry
+TNH = fixed (sub "TNH" 2 (bits 16 1 "True North Heading" LSB 360 over 2 ^ 16 of "degrees" ∷ []))
 
 -- ---- 2.10 Military Extended Squitter
 
--- Primary Subfield
-abbrev primary : Line
-primary =
-    part 1
-    (bit  -- SUM
-    ∷ bit  -- PNO
-    ∷ bit  -- EM1
-    ∷ bit  -- XP
-    ∷ bit  -- FOM
-    ∷ bit  -- M2
-    ∷ spare 1
-    ∷ [])
-
 -- Subfield #1: Mode 5 Summary
-abbrev SUM : Line
+abbrev SUM : Structure
 SUM =
-    sub 0 1
-    (bit  -- M5
-    ∷ bit  -- ID
-    ∷ bit  -- DA
-    ∷ bit  -- M1
-    ∷ bit  -- M2
-    ∷ bit  -- M3
-    ∷ bit  -- MC
-    ∷ bit  -- PO
-    ∷ [])
+    sub "SUM" 1
+    (bit 8 "M5" ∷ bit 7 "ID" ∷ bit 6 "DA" ∷ bit 5 "M1" ∷ bit 4 "M2" ∷ bit 3 "M3" ∷ bit 2 "MC" ∷ bit 1 "PO" ∷ [])
 
 -- Subfield #2: Mode 5 PIN / National Origin
-abbrev PNO : Line
-PNO =
-    sub 1 4
-    (spare 2
-    ∷ bits 14  -- PIN
-    ∷ spare 5
-    ∷ bits 11  -- NO
-    ∷ [])
+abbrev PNO : Structure
+PNO = sub "PNO" 4 (spares 32 31 ∷ bits 30 17 "PIN" ∷ spares 16 12 ∷ bits 11 1 "NO" ∷ [])
 
 -- Subfield #3: Extended Mode 1 Code in Octal Representation
-abbrev EM1 : Line
-EM1 =
-    sub 2 2
-    (bit  -- V
-    ∷ spare 1
-    ∷ bit  -- L
-    ∷ spare 1
-    ∷ bits 12  -- EM1
-    ∷ [])
+abbrev EM1 : Structure
+EM1 = sub "EM1" 2 (bit 16 "V" ∷ spareBit 15 ∷ bit 14 "L" ∷ spareBit 13 ∷ bits 12 1 "EM1" ∷ [])
 
 -- Subfield #4: X Pulse Presence
-abbrev XP : Line
-XP =
-    sub 3 1
-    (spare 2
-    ∷ bit  -- XP
-    ∷ bit  -- X5
-    ∷ bit  -- XC
-    ∷ bit  -- X3
-    ∷ bit  -- X2
-    ∷ bit  -- X1
-    ∷ [])
+abbrev XP : Structure
+XP = sub "XP" 1 (spares 8 7 ∷ bit 6 "XP" ∷ bit 5 "X5" ∷ bit 4 "XC" ∷ bit 3 "X3" ∷ bit 2 "X2" ∷ bit 1 "X1" ∷ [])
 
 -- Subfield #5: Figure of Merit
-abbrev FOM : Line
-FOM =
-    sub 4 1
-    (spare 3
-    ∷ bits 5  -- FOM
-    ∷ [])
+abbrev FOM : Structure
+FOM = sub "FOM" 1 (spares 8 6 ∷ bits 5 1 "FOM" ∷ [])
 
--- Subfield #6: Mode 2 Code in Octal Representation
-abbrev M2 : Line
-M2 =
-    sub 5 2
-    (bit  -- V
-    ∷ spare 1
-    ∷ bit  -- L
-    ∷ spare 1
-    ∷ bits 12  -- Mode-2 code
-    ∷ [])
+-- Subfield #6: Mode 2 Code in Octal Representation. No short name is printed for the code itself
+abbrev M2 : Structure
+M2 = sub "M2" 2 (bit 16 "V" ∷ spareBit 15 ∷ bit 14 "L" ∷ spareBit 13 ∷ bits 12 1 "M2" ∷ [])
 
-abbrev pub MES : Item
-MES = chained primary [] (SUM ∷ PNO ∷ EM1 ∷ XP ∷ FOM ∷ M2 ∷ [])
+abbrev pub MES : Entry
+MES =
+    compound "MES"
+    (part 1 (bit 8 "SUM" ∷ bit 7 "PNO" ∷ bit 6 "EM1" ∷ bit 5 "XP" ∷ bit 4 "FOM" ∷ bit 3 "M2" ∷ spareBit 2 ∷ []))
+    []
+    (SUM ∷ PNO ∷ EM1 ∷ XP ∷ FOM ∷ M2 ∷ [])
 
 -- ---- 2.2 Items Indicator, bit 8 first
 
+unfoldable pub printed021 : List Entry
+printed021 = BPS ∷ SelH ∷ NAV ∷ GAO ∷ SGV ∷ STA ∷ TNH ∷ MES ∷ []
+
 unfoldable pub cat021 : List Item
-cat021 = BPS ∷ SelH ∷ NAV ∷ GAO ∷ SGV ∷ STA ∷ TNH ∷ MES ∷ []
+unfolding printed021
+cat021 = made printed021

@@ -1,19 +1,21 @@
--- The names of items and numbers, as the papers print them (01, 'The sheet': "A key is ITEM, ITEM.SUB, or ITEM.SUB.FIELD, with the source's short names as printed .. the last name
--- stands only where a subfield has several numbers, and an item without subfields uses ITEM.FIELD likewise").
-use mathlib.Core.List.{List, [] as none, _∷_ as _then_, _++_ as _join_}
+-- The names of items and numbers on the sheet, made from the papers (01, 'The sheet': "A key is ITEM, ITEM.SUB, or
+-- ITEM.SUB.FIELD, with the source's short names as printed .. the last name stands only where a subfield has several
+-- numbers, and an item without subfields uses ITEM.FIELD likewise").
+use mathlib.Core.List.{List, [], _∷_, _++_}
+use mathlib.Core.Bool.{Bool}
 use Prim.Native.Nat.{ℕ}
-use Prim.Native.Char.{code}
-use Prim.Native.String.{String, [], _∷_}
-use lib.Dec.{eqb}
-use lib.ListN.{replicate}
+use Prim.Native.String.{String}
+use lib.Dec.{eqb, leb}
+use lib.ListN.{length, replicate}
 use Rattle.codec.specs.Pick.{pick}
+pub use Rattle.codec.specs.Printed.{text}
+use Rattle.codec.specs.Printed.{Structure, Entry, compound, fixed, sameText, runNames, numberNames}
+use Rattle.layout.specs.Cat048.{printed048}
+use Rattle.layout.specs.Cat021.{printed021}
+use Rattle.layout.specs.Cat007.{printed007}
 
--- a text as octets
-abbrev pub text : String → List ℕ
-text [] = none
-text (c ∷ s) = code c then text s
-
--- how a number stands on the sheet: not at all, as a presence flag; alone; with its angle behind it; with its pressure behind it
+-- how a number stands on the sheet: not at all, as a presence flag; alone; with its angle behind it; with its
+-- pressure behind it
 pub data Key : Type 0 where
   hidden : Key
   shown : List ℕ → Key
@@ -25,182 +27,73 @@ pub record Named : Type 0 where
   pub name : List ℕ
   pub keys : List (List Key)
 
--- ---- words for the tables below: one number; several under one name; angles under one name
+abbrev same : String → String → Bool
+same a b = sameText (text a) (text b)
 
-abbrev one : String → List Key
-one s = shown (text s) then none
+-- "After each latitude and each longitude comes a line with `.udeg` .. After BPS comes `BPS.tenths`"
+abbrev pub keyOf : String → List ℕ → Key
+keyOf name key =
+    pick (same name "LAT") (angle key)
+    (pick (same name "LON") (angle key)
+    (pick (same name "BPS") (pressure key) (shown key)))
 
-abbrev below : String → String → List ℕ
-below p f = text p join (text "." join text f)
+-- the numbers of a line: each by its own name under another; the only one by the other name alone
+abbrev each : List ℕ → List String → List Key
+each above [] = []
+each above (n ∷ ns) = keyOf n (above ++ (text "." ++ text n)) ∷ each above ns
 
-abbrev under : String → List String → List Key
-under p none = none
-under p (f then fs) = shown (below p f) then under p fs
+abbrev only : List ℕ → List String → List Key
+only above [] = []
+only above (n ∷ ns) = keyOf n above ∷ only above ns
 
-abbrev angles : String → List String → List Key
-angles p none = none
-angles p (f then fs) = angle (below p f) then angles p fs
+abbrev keysOf : ℕ → List ℕ → List String → List Key
+keysOf many above ns = pick (leb many 1) (only above ns) (each above ns)
 
--- ---- 048, document 000, 2.3 to 2.7; document 004 prints 2.4 to 2.7 alike
+-- an item without subfields; the primary subfield of one with subfields; its subfields
+abbrev partKeys : ℕ → List ℕ → List Structure → List (List Key)
+partKeys many item [] = []
+partKeys many item (p ∷ ps) = keysOf many item (runNames (p .runs)) ∷ partKeys many item ps
 
-abbrev MD5 : Named
-MD5 = record {
-  name = text "MD5";
-  keys =
-      (replicate 7 hidden) then
-      (under "MD5.SUM" ("M5" then "ID" then "DA" then "M1" then "M2" then "M3" then "MC" then none)) then
-      (under "MD5.PMN" ("PIN" then "NAV" then "NAT" then "MIS" then none)) then
-      (angles "MD5.POS" ("LAT" then "LON" then none)) then
-      (under "MD5.GA" ("RES" then "GA" then none)) then
-      (under "MD5.EM1" ("V" then "G" then "L" then "EM1" then none)) then
-      (one "MD5.TOS") then
-      (under "MD5.XP" ("XP" then "X5" then "XC" then "X3" then "X2" then "X1" then none)) then
-      none;
+abbrev flagKeys : List Structure → List (List Key)
+flagKeys [] = []
+flagKeys (p ∷ ps) = replicate (length (runNames (p .runs))) hidden ∷ flagKeys ps
+
+abbrev subKeys : List ℕ → List Structure → List (List Key)
+subKeys item [] = []
+subKeys item (s ∷ ss) =
+    keysOf (length (runNames (s .runs))) (item ++ (text "." ++ text (s .name))) (runNames (s .runs)) ∷ subKeys item ss
+
+abbrev named : Entry → Named
+named (compound name p qs []) = record {
+  name = text name;
+  keys = partKeys (length (numberNames (p ∷ qs))) (text name) (p ∷ qs);
+}
+named (compound name p qs (s ∷ ss)) = record {
+  name = text name;
+  keys = flagKeys (p ∷ qs) ++ subKeys (text name) (s ∷ ss);
+}
+named (fixed s) = record {
+  name = text (s .name);
+  keys = partKeys (length (runNames (s .runs))) (text (s .name)) (s ∷ []);
 }
 
-abbrev M5N : Named
-M5N = record {
-  name = text "M5N";
-  keys =
-      (replicate 7 hidden) then
-      (replicate 1 hidden) then
-      (under "M5N.SUM" ("M5" then "ID" then "DA" then "M1" then "M2" then "M3" then "MC" then none)) then
-      (under "M5N.PMN" ("PIN" then "NOV" then "NO" then none)) then
-      (angles "M5N.POS" ("LAT" then "LON" then none)) then
-      (under "M5N.GA" ("RES" then "GA" then none)) then
-      (under "M5N.EM1" ("V" then "G" then "L" then "EM1" then none)) then
-      (one "M5N.TOS") then
-      (under "M5N.XP" ("XP" then "X5" then "XC" then "X3" then "X2" then "X1" then none)) then
-      (one "M5N.FOM") then
-      none;
-}
-
-abbrev M4E : Named
-M4E = record {
-  name = text "M4E";
-  keys =
-      (one "M4E") then
-      none;
-}
-
-abbrev RPC : Named
-RPC = record {
-  name = text "RPC";
-  keys =
-      (replicate 4 hidden) then
-      (one "RPC.SCO") then
-      (one "RPC.SCR") then
-      (one "RPC.RW") then
-      (one "RPC.AR") then
-      none;
-}
-
-abbrev ERR : Named
-ERR = record {
-  name = text "ERR";
-  keys =
-      (one "ERR") then
-      none;
-}
-
--- ---- 021, document 003, 2.3 to 2.10
-
-abbrev BPS : Named
-BPS = record {
-  name = text "BPS";
-  keys =
-      (pressure (text "BPS") then none) then
-      none;
-}
-
-abbrev SelH : Named
-SelH = record {
-  name = text "SelH";
-  keys =
-      (under "SelH" ("HRD" then "Stat" then "SelH" then none)) then
-      none;
-}
-
-abbrev NAV : Named
-NAV = record {
-  name = text "NAV";
-  keys =
-      (under "NAV" ("AP" then "VN" then "AH" then "AM" then "MFM#EP" then "MFM#VAL" then none)) then
-      none;
-}
-
-abbrev GAO : Named
-GAO = record {
-  name = text "GAO";
-  keys =
-      (under "GAO" ("Lateral" then "Longitudinal" then none)) then
-      none;
-}
-
-abbrev SGV : Named
-SGV = record {
-  name = text "SGV";
-  keys =
-      (under "SGV" ("STP" then "HTS" then "HTT" then "HRD" then "GSS" then none)) then
-      (one "SGV.HGT") then
-      none;
-}
-
-abbrev STA : Named
-STA = record {
-  name = text "STA";
-  keys =
-      (under "STA" ("ES" then "UAT" then "RCE#EP" then "RCE#VAL" then "RRL#EP" then "RRL#VAL" then none)) then
-      (under "STA" ("PS3#EP" then "PS3#VAL" then "TPW#EP" then "TPW#VAL" then none)) then
-      (under "STA" ("TSI#EP" then "TSI#VAL" then "MUO#EP" then "MUO#VAL" then "RWC#EP" then "RWC#VAL" then none)) then
-      (under "STA" ("DAA#EP" then "DAA#VAL" then "DF17CA#EP" then "DF17CA#VAL" then none)) then
-      (under "STA" ("SVH#EP" then "SVH#VAL" then "CATC#EP" then "CATC#VAL" then none)) then
-      (under "STA" ("TAO#EP" then "TAO#VAL" then none)) then
-      none;
-}
-
-abbrev TNH : Named
-TNH = record {
-  name = text "TNH";
-  keys =
-      (one "TNH") then
-      none;
-}
-
-abbrev MES : Named
-MES = record {
-  name = text "MES";
-  keys =
-      (replicate 6 hidden) then
-      (under "MES.SUM" ("M5" then "ID" then "DA" then "M1" then "M2" then "M3" then "MC" then "PO" then none)) then
-      (under "MES.PNO" ("PIN" then "NO" then none)) then
-      (under "MES.EM1" ("V" then "L" then "EM1" then none)) then
-      (under "MES.XP" ("XP" then "X5" then "XC" then "X3" then "X2" then "X1" then none)) then
-      (one "MES.FOM") then
-      (under "MES.M2" ("V" then "L" then "M2" then none)) then
-      none;
-}
-
--- ---- 007, document 004, 2.3
-
-abbrev TA : Named
-TA = record {
-  name = text "TA";
-  keys =
-      (under "TA" ("TAmax" then "TAmin" then none)) then
-      none;
-}
+abbrev allNamed : List Entry → List Named
+allNamed [] = []
+allNamed (e ∷ es) = named e ∷ allNamed es
 
 -- ---- the names of a category's items, in the order of their bits
 
 unfoldable pub names048 : List Named
-names048 = MD5 then M5N then M4E then RPC then ERR then none
+unfolding printed048
+names048 = allNamed printed048
 
 unfoldable pub names021 : List Named
-names021 = BPS then SelH then NAV then GAO then SGV then STA then TNH then MES then none
+unfolding printed021
+names021 = allNamed printed021
 
 unfoldable pub names007 : List Named
-names007 = TA then M5N then M4E then RPC then ERR then none
+unfolding printed007
+names007 = allNamed printed007
 
 unfoldable pub namesOf : ℕ → List Named
-namesOf cat = pick (eqb cat 48) names048 (pick (eqb cat 21) names021 (pick (eqb cat 7) names007 none))
+namesOf cat = pick (eqb cat 48) names048 (pick (eqb cat 21) names021 (pick (eqb cat 7) names007 []))

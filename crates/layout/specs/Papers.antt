@@ -1,15 +1,16 @@
 -- Which categories there are, and the paper of each (01, 'Papers that decide' and 'The field').
-use mathlib.Core.Bool.{Bool, true, false}
+use mathlib.Core.Bool.{Bool, true, _&&_}
 use mathlib.Core.List.{List, []}
 use Prim.Native.Nat.{ℕ}
-use lib.Dec.{eqb}
+use lib.Dec.{leb, eqb}
 use lib.ListN.{length}
 use Rattle.codec.specs.Pick.{pick}
 use Rattle.codec.specs.Item.{Item}
 use Rattle.codec.specs.Field.{longest}
-use Rattle.layout.specs.Cat048.{cat048}
-use Rattle.layout.specs.Cat021.{cat021}
-use Rattle.layout.specs.Cat007.{cat007}
+use Rattle.codec.specs.Printed.{Entry}
+use Rattle.layout.specs.Cat048.{printed048, cat048}
+use Rattle.layout.specs.Cat021.{printed021, cat021}
+use Rattle.layout.specs.Cat007.{printed007, cat007}
 
 -- 1 is given "when category is not 7, 21 or 48"
 unfoldable pub known : ℕ → Bool
@@ -18,9 +19,21 @@ known cat = pick (eqb cat 48) true (pick (eqb cat 21) true (eqb cat 7))
 unfoldable pub paperOf : ℕ → List Item
 paperOf cat = pick (eqb cat 48) cat048 (pick (eqb cat 21) cat021 (pick (eqb cat 7) cat007 []))
 
+-- the same as it is printed
+unfoldable pub printedOf : ℕ → List Entry
+printedOf cat = pick (eqb cat 48) printed048 (pick (eqb cat 21) printed021 (pick (eqb cat 7) printed007 []))
+
 -- "Each category carries three numbers of its own: its category number, its count of items and its longest field"
 abbrev pub itemsOf : ℕ → ℕ
 itemsOf cat = length (paperOf cat)
 
 abbrev pub longestOf : ℕ → ℕ
 longestOf cat = longest (paperOf cat)
+
+-- "The item number is 1 for bit 8 up to 8 for bit 1": there is such an item
+abbrev pub numbered : ℕ → ℕ → Bool
+numbered cat item = leb 1 item && leb item (itemsOf cat)
+
+-- no field of any category is longer (Laws.Papers, few-octets)
+abbrev pub LONGEST : ℕ
+LONGEST = 52

@@ -1,11 +1,9 @@
 -- What the code of the reader computes, level by level, and that it is what the codecs read.
 pub mod Numbers
 pub mod Steps
-pub mod Lines
 pub mod Walk
 pub mod Chains
 pub mod Items
 pub mod Rows
 pub mod Fields
-pub mod Whole
-pub mod Surveys
+pub mod Laws

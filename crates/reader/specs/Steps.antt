@@ -1,10 +1,10 @@
 -- A reading as code has it: an answer, and the numbers in their slots.
 use mathlib.Core.List.{List}
-use Prim.Native.Nat.{ℕ, _+_}
+use Prim.Native.Nat.{ℕ}
 use lib.IntN.{ℤ}
 use lib.ListN.{drop}
 use lib.Seq.{sets}
-use Rattle.codec.specs.Codec.{Res, got, bad, shift, Codec}
+use Rattle.codec.specs.Codec.{Res, got, bad, shift}
 use Rattle.codec.specs.Line.{Held, line}
 use Rattle.tables.specs.Lines.{lineAt}
 use Rattle.reader.specs.declared.lines.Step.{Step}

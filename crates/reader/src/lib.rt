@@ -1,6 +1,6 @@
 // Reads a field of a category: `read` gives the answer and the record, `survey` the answer and where each item begins.
 // Promises: both answer what 01 defines, for every category and every octet string; octets from LEN on are never looked at.
-// Stands on tables; its module lines reads one chain part or subfield by its row.
+// Stands on tables; its module lines reads one chain part or subfield by its format.
 ghost use mathlib.Core.Path.{_≡_};
 ghost use mathlib.Core.Bool.{true};
 ghost use mathlib.Core.List.{List};
@@ -12,7 +12,7 @@ ghost use Rattle.codec.specs.Codec.{Res};
 ghost use Rattle.codec.specs.Line.{Held};
 ghost use Rattle.codec.specs.Item.{slots};
 ghost use Rattle.codec.specs.Field.{flags, allZero};
-ghost use Rattle.codec.specs.Frame.{lenOf};
+ghost use Rattle.codec.specs.Meaning.{lenOf};
 ghost use Rattle.layout.specs.Papers.{known};
 ghost use Rattle.scope.specs.Reading.{readOf};
 ghost use Rattle.tables.specs.Lines.{lineAt, firstAt, countAt, itemAt, spotAt};
@@ -23,14 +23,19 @@ ghost use Rattle.reader.specs.Chains.{chainRun, chainRoom};
 ghost use Rattle.reader.specs.Items.{HeldSoFar, more, itemRun};
 ghost use Rattle.reader.specs.Rows.{placeRun, rowFrom, RowStands};
 ghost use Rattle.reader.specs.Fields.{asAnswer, itemsIn, walkOf, WalkStands};
-ghost use Rattle.reader.specs.Surveys.{surveyOf};
+ghost use Rattle.scope.specs.Survey.{surveyOf};
+ghost use Rattle.layout.specs.Record.{SLOTS};
 
 mod lines;
 
 use layout::Answer;
+use layout::Numbers;
 use layout::Reading;
 use layout::Record;
+use layout::SLOTS;
+use layout::Surveyed;
 use lines::Step;
+use tables::NO_LINE;
 
 // The rest of a chain behind its part b, which began at a place and was answered by a: left further parts are defined, done came before.
 fn rest(
@@ -41,9 +46,9 @@ fn rest(
     base: usize,
     left: usize,
     done: u8,
-    numbers: &mut [i32; 77],
+    numbers: &mut Numbers,
 ) -> Step
-    requires { ⌜ (b + left < 1000) × (done + left < 255) × T (partsOk b left) × (chainRoom base b left ≤ 77) ⌝ }
+    requires { ⌜ (b + left < 1000) × (done + left < 255) × T (partsOk b left) × (chainRoom base b left ≤ SLOTS) ⌝ }
     ensures { λ r. ⌜ ((l : List ℤ) → Ready l (base + firstAt b) → Stands l (base + firstAt b) (lineRun b (now (s .entry)) at) a (now (numbers .entry)) → Stands l (base + firstAt b) (chainRun done b left (now (s .entry)) at) r (now (numbers .exit))) ⌝ }
 {
     let Step::Next(fx, next) = a else {
@@ -60,8 +65,8 @@ fn rest(
 }
 
 // The chain whose first part is line b, with left further parts.
-fn chain(s: &[u8], at: usize, b: usize, base: usize, left: usize, numbers: &mut [i32; 77]) -> Step
-    requires { ⌜ (b + left < 1000) × (left < 255) × T (partsOk b left) × (chainRoom base b left ≤ 77) × Ready (now numbers) (base + firstAt b) ⌝ }
+fn chain(s: &[u8], at: usize, b: usize, base: usize, left: usize, numbers: &mut Numbers) -> Step
+    requires { ⌜ (b + left < 1000) × (left < 255) × T (partsOk b left) × (chainRoom base b left ≤ SLOTS) × Ready (now numbers) (base + firstAt b) ⌝ }
     ensures { λ r. ⌜ Stands (now (numbers .entry)) (base + firstAt b) (chainRun 0 b left (now (s .entry)) at) r (now (numbers .exit)) ⌝ }
 {
     let a = lines::line(s, at, b, base, &mut *numbers);
@@ -72,13 +77,13 @@ fn chain(s: &[u8], at: usize, b: usize, base: usize, left: usize, numbers: &mut 
 fn flag_of(b: usize) -> usize
     ensures { λ r. ⌜ r ≡ lineAt b .flag ⌝ }
 {
-    let row = tables::row_of(b);
-    row.6
+    let format = tables::format_of(b);
+    format.flag
 }
 
 // Subfield b, if it is there, behind what was read before and answered by a.
-fn subfield(s: &[u8], a: Step, b: usize, base: usize, numbers: &mut [i32; 77]) -> Step
-    requires { ⌜ (lineAt b .flag < firstAt b) × (base + (firstAt b + countAt b) ≤ 77) ⌝ }
+fn subfield(s: &[u8], a: Step, b: usize, base: usize, numbers: &mut Numbers) -> Step
+    requires { ⌜ (lineAt b .flag < firstAt b) × (base + (firstAt b + countAt b) ≤ SLOTS) ⌝ }
     ensures { λ r. ⌜ ((l : List ℤ) (x : Res Held) → Ready l base → HeldSoFar l base x (firstAt b) a (now (numbers .entry)) → HeldSoFar l base (more (lineAt b) (now (s .entry)) x) (firstAt b + countAt b) r (now (numbers .exit))) ⌝ }
 {
     let Step::Next(count, at) = a else {
@@ -97,8 +102,8 @@ fn subfield(s: &[u8], a: Step, b: usize, base: usize, numbers: &mut [i32; 77]) -
 }
 
 // The items with subfields, each in the order of its lines. Line numbers stand here as literals, so that the rows of the table are constants.
-fn md5(s: &[u8], at: usize, base: usize, numbers: &mut [i32; 77]) -> Step
-    requires { ⌜ (base + 33 ≤ 77) × Ready (now numbers) base ⌝ }
+fn md5(s: &[u8], at: usize, base: usize, numbers: &mut Numbers) -> Step
+    requires { ⌜ (base + 33 ≤ SLOTS) × Ready (now numbers) base ⌝ }
     ensures { λ r. ⌜ Stands (now (numbers .entry)) base (itemRun 0 (now (s .entry)) at) r (now (numbers .exit)) ⌝ }
 {
     let part = chain(s, at, 0, base, 0, &mut *numbers);
@@ -111,8 +116,8 @@ fn md5(s: &[u8], at: usize, base: usize, numbers: &mut [i32; 77]) -> Step
     subfield(s, tos, 7, base, &mut *numbers)
 }
 
-fn m5n(s: &[u8], at: usize, base: usize, numbers: &mut [i32; 77]) -> Step
-    requires { ⌜ (base + 34 ≤ 77) × Ready (now numbers) base ⌝ }
+fn m5n(s: &[u8], at: usize, base: usize, numbers: &mut Numbers) -> Step
+    requires { ⌜ (base + 34 ≤ SLOTS) × Ready (now numbers) base ⌝ }
     ensures { λ r. ⌜ Stands (now (numbers .entry)) base (itemRun 1 (now (s .entry)) at) r (now (numbers .exit)) ⌝ }
 {
     let parts = chain(s, at, 8, base, 1, &mut *numbers);
@@ -126,8 +131,8 @@ fn m5n(s: &[u8], at: usize, base: usize, numbers: &mut [i32; 77]) -> Step
     subfield(s, xp, 17, base, &mut *numbers)
 }
 
-fn rpc(s: &[u8], at: usize, base: usize, numbers: &mut [i32; 77]) -> Step
-    requires { ⌜ (base + 8 ≤ 77) × Ready (now numbers) base ⌝ }
+fn rpc(s: &[u8], at: usize, base: usize, numbers: &mut Numbers) -> Step
+    requires { ⌜ (base + 8 ≤ SLOTS) × Ready (now numbers) base ⌝ }
     ensures { λ r. ⌜ Stands (now (numbers .entry)) base (itemRun 3 (now (s .entry)) at) r (now (numbers .exit)) ⌝ }
 {
     let part = chain(s, at, 19, base, 0, &mut *numbers);
@@ -137,8 +142,8 @@ fn rpc(s: &[u8], at: usize, base: usize, numbers: &mut [i32; 77]) -> Step
     subfield(s, rw, 23, base, &mut *numbers)
 }
 
-fn mes(s: &[u8], at: usize, base: usize, numbers: &mut [i32; 77]) -> Step
-    requires { ⌜ (base + 29 ≤ 77) × Ready (now numbers) base ⌝ }
+fn mes(s: &[u8], at: usize, base: usize, numbers: &mut Numbers) -> Step
+    requires { ⌜ (base + 29 ≤ SLOTS) × Ready (now numbers) base ⌝ }
     ensures { λ r. ⌜ Stands (now (numbers .entry)) base (itemRun 12 (now (s .entry)) at) r (now (numbers .exit)) ⌝ }
 {
     let part = chain(s, at, 38, base, 0, &mut *numbers);
@@ -151,8 +156,8 @@ fn mes(s: &[u8], at: usize, base: usize, numbers: &mut [i32; 77]) -> Step
 }
 
 // One item of those that some paper has.
-fn item(s: &[u8], at: usize, k: usize, base: usize, numbers: &mut [i32; 77]) -> Step
-    requires { ⌜ (base + slots (itemAt k) ≤ 77) × Ready (now numbers) base ⌝ }
+fn item(s: &[u8], at: usize, k: usize, base: usize, numbers: &mut Numbers) -> Step
+    requires { ⌜ (base + slots (itemAt k) ≤ SLOTS) × Ready (now numbers) base ⌝ }
     ensures { λ r. ⌜ Stands (now (numbers .entry)) base (itemRun k (now (s .entry)) at) r (now (numbers .exit)) ⌝ }
 {
     match k {
@@ -170,24 +175,24 @@ fn item(s: &[u8], at: usize, k: usize, base: usize, numbers: &mut [i32; 77]) -> 
         11 => lines::line(s, at, 37, base, &mut *numbers),
         12 => mes(s, at, base, &mut *numbers),
         13 => lines::line(s, at, 45, base, &mut *numbers),
-        _ => lines::line(s, at, 46, base, &mut *numbers),
+        _ => lines::line(s, at, NO_LINE, base, &mut *numbers),
     }
 }
 
-fn wide(b: u8) -> usize
-    ensures { λ r. ⌜ (r ≡ b) × (r < 256) ⌝ }
-{
-    b as usize
-}
-
 // The item at a spot, if it is there.
-fn place(s: &[u8], at: usize, k: usize, there: bool, numbers: &mut [i32; 77]) -> Step
+fn place(s: &[u8], at: usize, k: usize, there: bool, numbers: &mut Numbers) -> Step
     requires { ⌜ T (spotOk k) × Ready (now numbers) (spotAt k .1) ⌝ }
     ensures { λ r. ⌜ Stands (now (numbers .entry)) (spotAt k .1) (placeRun k there (now (s .entry)) at) r (now (numbers .exit)) ⌝ }
 {
     if there {
         let spot = tables::spot_at(k);
-        return item(s, at, wide(spot.0), wide(spot.1), &mut *numbers);
+        return item(
+            s,
+            at,
+            leaves::wide(spot.0),
+            leaves::wide(spot.1),
+            &mut *numbers,
+        );
     }
     Step::Next(0, at)
 }
@@ -212,7 +217,7 @@ fn row(
     first: usize,
     n: usize,
     ind: u8,
-    numbers: &mut [i32; 77],
+    numbers: &mut Numbers,
     parts: &mut [u8; 8],
     starts: &mut [usize; 9],
 ) -> Step
@@ -240,7 +245,7 @@ fn no_spare(ind: u8, n: usize) -> bool
     requires { ⌜ n ≤ 8 ⌝ }
     ensures { λ r. ⌜ r ≡ allZero (drop n (flags ind)) ⌝ }
 {
-    wide(ind) % (1usize << (8 - n)) == 0
+    leaves::wide(ind) % (1usize << (8 - n)) == 0
 }
 
 // A step as the answer: how far it came, or its refusal unchanged.
@@ -258,7 +263,7 @@ fn items(
     s: &[u8],
     cat: u8,
     ind: u8,
-    numbers: &mut [i32; 77],
+    numbers: &mut Numbers,
     parts: &mut [u8; 8],
     starts: &mut [usize; 9],
 ) -> Answer
@@ -284,7 +289,7 @@ fn items(
 fn walk(
     cat: u8,
     field: &[u8],
-    numbers: &mut [i32; 77],
+    numbers: &mut Numbers,
     parts: &mut [u8; 8],
     starts: &mut [usize; 9],
 ) -> Answer
@@ -295,7 +300,7 @@ fn walk(
         if field.len() == 0 {
             return Answer::Refused(2, 0);
         }
-        let len = wide(field[0]);
+        let len = leaves::wide(field[0]);
         if len < 2 {
             return Answer::Refused(3, 0);
         }
@@ -313,7 +318,7 @@ fn walk(
 pub fn read(cat: u8, field: &[u8]) -> Reading
     ensures { λ r. ⌜ r ≡ readOf cat (now (field .entry)) ⌝ }
 {
-    let mut numbers = [0i32; 77];
+    let mut numbers = [0i32; SLOTS];
     let mut parts = [0u8; 8];
     let mut starts = [0usize; 9];
     let a = walk(cat, field, &mut numbers, &mut parts, &mut starts);
@@ -322,7 +327,7 @@ pub fn read(cat: u8, field: &[u8]) -> Reading
             cat: 0,
             items: 0,
             parts: [0u8; 8],
-            numbers: [0i32; 77],
+            numbers: [0i32; SLOTS],
         };
         return Reading { answer: a, kept: z };
     };
@@ -338,18 +343,11 @@ pub fn read(cat: u8, field: &[u8]) -> Reading
     }
 }
 
-// The answer, the indicator, and where each item begins, an absent one with the next; behind the last item where the field ends.
-pub struct Surveyed {
-    pub answer: Answer,
-    pub items: u8,
-    pub starts: [usize; 9],
-}
-
 // Where the items of a field stand.
 pub fn survey(cat: u8, field: &[u8]) -> Surveyed
     ensures { λ r. ⌜ r ≡ surveyOf cat (now (field .entry)) ⌝ }
 {
-    let mut numbers = [0i32; 77];
+    let mut numbers = [0i32; SLOTS];
     let mut parts = [0u8; 8];
     let mut starts = [0usize; 9];
     starts[0] = 2;

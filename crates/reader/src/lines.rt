@@ -1,4 +1,4 @@
-// One line of the papers, a chain part or a subfield, read by its row of the table into the slots of the record.
+// One line of the papers, a chain part or a subfield, read by its format of the table into the slots of the record.
 // Promises: `line` answers what the codec of the line answers at that place, and puts its numbers there. Stands on tables.
 ghost use mathlib.Core.Path.{_≡_};
 ghost use Prim.Native.Nat.{_+_, _-_, _*_, _^_, _/_, _%_, _≤_, _<_};
@@ -10,38 +10,15 @@ ghost use Rattle.codec.specs.Signed.{toSigned};
 ghost use Rattle.codec.specs.Radix.{join, eights};
 ghost use Rattle.codec.specs.Line.{toNum, limit, inLimits};
 ghost use Rattle.tables.specs.Lines.{firstAt, countAt, kindOf, piecesFrom, narrow};
-ghost use Rattle.reader.specs.Numbers.{inside, numsAt};
+ghost use Rattle.reader.specs.Numbers.{inside, numsAt, Took};
 ghost use Rattle.reader.specs.Steps.{stepOf, afterOf, lineRun};
+ghost use Rattle.layout.specs.Record.{SLOTS};
+use layout::Numbers;
 
 // How far reading came: FX of a part or the parts of a chain, and the next place; or a refusal and its place.
 pub enum Step {
     Next(u8, usize),
     Refused(u8, usize),
-}
-
-// The difference, or 0: what - is on the numbers of a contract.
-fn minus(a: usize, b: usize) -> usize
-    ensures { λ r. ⌜ r ≡ a - b ⌝ }
-{
-    if b <= a {
-        return a - b;
-    }
-    0
-}
-
-fn less(a: u64, b: u64) -> u64
-    ensures { λ r. ⌜ r ≡ a - b ⌝ }
-{
-    if b <= a {
-        return a - b;
-    }
-    0
-}
-
-fn wide(b: u8) -> u64
-    ensures { λ r. ⌜ (r ≡ b) × (r < 256) ⌝ }
-{
-    b as u64
 }
 
 // k octets from a place on, as one number.
@@ -52,7 +29,7 @@ fn octets(s: &[u8], at: usize, k: usize) -> u64
     let mut n: u64 = 0;
     let mut i: usize = 0;
     while i < k {
-        n = n * 256 + wide(s[at + i]);
+        n = n * 256 + leaves::wide64(s[at + i]);
         i += 1;
     }
     n
@@ -117,61 +94,71 @@ fn fits(z: i32, kind: u64) -> bool
     between(z, -40, 8191)
 }
 
-fn put(numbers: &mut [i32; 77], at: usize, z: i32)
-    requires { ⌜ at < 77 ⌝ }
+fn put(numbers: &mut Numbers, at: usize, z: i32)
+    requires { ⌜ at < SLOTS ⌝ }
     ensures { λ _. ⌜ now (numbers .exit) ≡ set (now (numbers .entry)) at z ⌝ }
 {
     numbers[at] = z;
 }
 
+// The number of one piece into its slot: the slots that it took, 0 for a spare piece; 2 for a number outside the limits of its kind.
+fn piece(numbers: &mut Numbers, n: u64, next: u64, w: u64, kind: u64, slot: usize) -> usize
+    requires { ⌜ (w < 32) × (next < 64) × ((kind ≡ 0 → ⊥) → (w ≤ 24) × (slot < SLOTS)) ⌝ }
+    ensures { λ r. ⌜ Took kind w n next slot (now (numbers .entry)) r (now (numbers .exit)) ⌝ }
+{
+    if kind == 0 {
+        return 0;
+    }
+    let z = number(low(n >> next, w), w, kind);
+    let ok = fits(z, kind);
+    if ok {
+        put(&mut *numbers, slot, z);
+        return 1;
+    }
+    2
+}
+
 // The numbers of the pieces that lie below bit shift of n, as long as they are within their limits.
-fn store(numbers: &mut [i32; 77], n: u64, shift: u64, code: u64, left: usize, slot: usize) -> bool
-    requires { ⌜ (slot + left ≤ 1000) × (slot + length (numsAt (piecesFrom left code) n shift) ≤ 77) × (shift ≤ 48) × T (narrow (piecesFrom left code)) ⌝ }
+fn store(numbers: &mut Numbers, n: u64, shift: u64, code: u64, left: usize, slot: usize) -> bool
+    requires { ⌜ (slot + left ≤ 1000) × (slot + length (numsAt (piecesFrom left code) n shift) ≤ SLOTS) × (shift ≤ 48) × T (narrow (piecesFrom left code)) ⌝ }
     ensures answer { λ r. ⌜ r ≡ inLimits (piecesFrom left code) (numsAt (piecesFrom left code) n shift) ⌝ }
     ensures kept { λ r. ⌜ now (numbers .exit) ≡ pick r (sets (now (numbers .entry)) slot (numsAt (piecesFrom left code) n shift)) (now (numbers .exit)) ⌝ }
 {
     if left == 0 {
         return true;
     }
-    let piece = code % 256;
-    let w = piece % 32;
-    let kind = piece / 32;
-    let next = less(shift, w);
-    if kind == 0 {
-        return store(&mut *numbers, n, next, code / 256, left - 1, slot);
+    let w = code % 256 % 32;
+    let next = leaves::less64(shift, w);
+    let more = piece(&mut *numbers, n, next, w, code % 256 / 32, slot);
+    if more == 2 {
+        return false;
     }
-    let z = number(low(n >> next, w), w, kind);
-    let ok = fits(z, kind);
-    if ok {
-        put(&mut *numbers, slot, z);
-        return store(&mut *numbers, n, next, code / 256, left - 1, slot + 1);
-    }
-    false
-}
-
-fn octet(n: u64) -> u8
-    requires { ⌜ n < 256 ⌝ }
-    ensures { λ r. ⌜ r ≡ n ⌝ }
-{
-    n as u8
+    store(&mut *numbers, n, next, code / 256, left - 1, slot + more)
 }
 
 // Line b at a place of the field; the slots of its item begin at base.
-pub fn line(s: &[u8], at: usize, b: usize, base: usize, numbers: &mut [i32; 77]) -> Step
-    requires { ⌜ base + (firstAt b + countAt b) ≤ 77 ⌝ }
+pub fn line(s: &[u8], at: usize, b: usize, base: usize, numbers: &mut Numbers) -> Step
+    requires { ⌜ base + (firstAt b + countAt b) ≤ SLOTS ⌝ }
     ensures answer { λ r. ⌜ r ≡ stepOf (lineRun b (now (s .entry)) at) ⌝ }
     ensures kept { λ _. ⌜ now (numbers .exit) ≡ afterOf (now (numbers .entry)) (base + firstAt b) (now (numbers .exit)) (lineRun b (now (s .entry)) at) ⌝ }
 {
-    let row = tables::row_of(b);
-    let k = row.0;
-    if minus(s.len(), at) < k {
+    let format = tables::format_of(b);
+    let k = format.octets;
+    if leaves::less(s.len(), at) < k {
         return Step::Refused(5, at);
     }
     let n = octets(s, at, k);
-    if n & row.1 == 0 {
-        let ok = store(&mut *numbers, n, (8 * k) as u64, row.2, row.3, base + row.5);
+    if n & format.spare == 0 {
+        let ok = store(
+            &mut *numbers,
+            n,
+            (8 * k) as u64,
+            format.pieces,
+            format.runs,
+            base + format.first,
+        );
         if ok {
-            return Step::Next(octet(low(n, row.4)), at + k);
+            return Step::Next(leaves::octet64(low(n, format.below)), at + k);
         }
         return Step::Refused(8, at);
     }

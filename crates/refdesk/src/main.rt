@@ -1,4 +1,4 @@
-// The co-process (DESIGN, section 6): answers each line of standard input by one line on standard output, in order, each before it waits for more input.
+// The co-process: answers each line of standard input by one line on standard output, in order, each before it waits for more input.
 // What a line is answered is answers' promise; here lines are put together from what each read brings. A last line without an end is answered too.
 // tests/refdesk.py makes lines, and by an implementation of 01 of its own the answers.
 

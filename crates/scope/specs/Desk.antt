@@ -1,17 +1,18 @@
 -- The slot desk (01, the section of that name): "A refusal of the field is the answer, with its number and place; then 12, 13, 14 (not for a removal), 11".
-use mathlib.Core.Bool.{Bool, true, false}
+use mathlib.Core.Bool.{Bool}
 use mathlib.Core.List.{List}
 use Prim.Native.Nat.{ℕ, _-_}
 use lib.Dec.{eqb}
-use lib.ListN.{getD}
+use lib.ListN.{length, getD}
 use Rattle.codec.specs.Pick.{pick}
 use Rattle.codec.specs.Item.{Item}
 use Rattle.codec.specs.Field.{flags, Contents, body}
 use Rattle.codec.specs.Frame.{Outcome, accepted, refused, writeFrame}
 use Rattle.codec.specs.Change.{Change, change}
+use Rattle.layout.specs.declared.Answer.{Answer}
 use Rattle.layout.specs.Papers.{paperOf}
 use Rattle.scope.specs.Reading.{fieldOf}
-use Rattle.scope.specs.Writing.{withRoom}
+use Rattle.scope.specs.Outputs.{withRoom, Leaves}
 use Rattle.scope.specs.Views.{isItem}
 
 -- the slot's list, "one octet, laid out as the indicator", has the item
@@ -33,3 +34,7 @@ editIn its list item ch room (accepted r) =
 unfoldable pub editOf : ℕ → List ℕ → ℕ → ℕ → Change → ℕ → Outcome (List ℕ)
 unfolding editIn
 editOf cat s list item ch room = editIn (paperOf cat) list item ch room (fieldOf cat s)
+
+-- what an edit promises of the answer, and of the output before and after
+abbrev pub Edited : ℕ → List ℕ → ℕ → ℕ → Change → List ℕ → Answer → List ℕ → Type 0
+Edited cat s list item ch out a out′ = Leaves (editOf cat s list item ch (length out)) out a out′

@@ -11,7 +11,8 @@ use Rattle.codec.specs.Codec.{number}
 use Rattle.codec.specs.Line.{toNum, ofNum, inNum, limit, widths, count, clear, nums, unnums, fitNums, inLimits, cells, line}
 use Rattle.codec.specs.Item.{slotsOf, slots, isZero, zeros, beside, fxOf, chain, isOne, subfields, item}
 use Rattle.codec.specs.Field.{isNil, isCons, uncons, firstFlag, nextFlags, row, allZero, indicator, body, texts, textsOf, before}
-use Rattle.codec.specs.Frame.{Outcome, accepted, refused, lenOf, settle, readFrame, writeFrame, okayFrame}
+use Rattle.codec.specs.Frame.{Outcome, accepted, refused, settle, readFrame, writeFrame, okayFrame}
+use Rattle.codec.specs.Meaning.{lenOf}
 use Rattle.codec.specs.Change.{Change, remove, put, setFlag, setItem, blankAt, alone, putIn, change}
 use Rattle.layout.specs.declared.Record.{Record}
 use Rattle.layout.specs.declared.Reading.{Reading}
@@ -22,9 +23,10 @@ use Rattle.layout.specs.declared.Which.the-variants.{Neither, Base, Correction}
 use Rattle.layout.specs.declared.Answer.the-variants.{Accepted, Refused}
 use Rattle.layout.specs.Cat048.{cat048}
 use Rattle.layout.specs.Papers.{known, paperOf}
-use Rattle.layout.specs.Record.{allParts, allNumbers, allSlots, flatten, regroup, unflatten, noParts, fitsPaper, contents}
+use Rattle.layout.specs.Record.{SLOTS, allParts, allNumbers, allSlots, flatten, regroup, unflatten, noParts, fitsPaper, contents}
 use Rattle.scope.specs.Reading.{fieldOf, noRecord, shown, readOf}
-use Rattle.scope.specs.Writing.{writable, written, withRoom, writeOf}
+use Rattle.scope.specs.Writing.{writable, written, writeOf}
+use Rattle.scope.specs.Outputs.{withRoom}
 use Rattle.scope.specs.Views.{isItem, present, standing, viewIn, viewOf, chooseIn, chooseOf}
 use Rattle.scope.specs.Desk.{listed, afresh, editIn, editOf}
 use Rattle.scope.specs.Angle.{rounded, udegOf}
@@ -36,7 +38,7 @@ abbrev no : ℕ → ℕ → Reading
 no n p = record { answer = Refused n p; kept = noRecord }
 
 numbersAt : List (ℕ × ℤ) → List ℤ
-numbersAt [] = replicate 77 (pos 0)
+numbersAt [] = replicate SLOTS (pos 0)
 numbersAt (p ∷ ps) = set (numbersAt ps) (p .0) (p .1)
 
 abbrev one : ℕ → ℕ → ℕ → ℕ → List (ℕ × ℤ) → Reading
@@ -45,10 +47,10 @@ one len ind place parts ps = record {
   kept = record { cat = 48; items = ind; parts = set (replicate 8 0) place parts; numbers = numbersAt ps };
 }
 
-abbrev pub Row : Type 0
-Row = List ℕ × Reading
+abbrev pub Edge : Type 0
+Edge = List ℕ × Reading
 
-unfoldable pub edges : List Row
+unfoldable pub edges : List Edge
 unfolding numbersAt
 edges =
     (2 ∷ 0x00 ∷ [], one 2 0 0 0 [])
@@ -65,7 +67,7 @@ edges =
     ∷ (6 ∷ 0x08 ∷ 0x01 ∷ 0x00 ∷ 0x00 ∷ 0x00 ∷ [], no 9 5)
     ∷ []
 
-pub edges-read : map (λ (r : Row). readOf 48 (r .0)) edges ≡ map (λ (r : Row). r .1) edges
+pub edges-read : map (λ (r : Edge). readOf 48 (r .0)) edges ≡ map (λ (r : Edge). r .1) edges
 unfolding edges numbersAt noRecord readOf shown fieldOf known paperOf cat048 flatten allParts allNumbers allSlots lenOf settle readFrame body indicator allZero row firstFlag nextFlags slots item chain beside subfields isOne slotsOf line cells number toNum toSigned limit widths count clear nums inLimits total cut join
 edges-read = refl
 

@@ -1,9 +1,14 @@
--- What each operation of 01 answers, a file for each of its sections: reading, writing, views and the choice, the desk, the angle, the sheet; and the octets of 01 computed.
+-- What each operation of 01 answers and promises, a file for each of its sections: reading, writing, views and the
+-- choice, the desk, the angle, the sheet; where the items stand; and the octets of 01 computed. What follows from
+-- them stands under Laws.
 pub mod Reading
+pub mod Outputs
 pub mod Writing
 pub mod Views
+pub mod Survey
 pub mod Desk
 pub mod Angle
 pub mod Sheet
 pub mod Sheets
 pub mod Edges
+pub mod Laws

@@ -1,17 +1,17 @@
 -- Reading a field (01, 'Numbers of refusal', "Reader: 1; 2 for an empty slice; 3; 2 for a short one; 4; then the items in order; then 9").
-use mathlib.Core.Bool.{Bool, true, false}
-use mathlib.Core.List.{List, [], _∷_}
+use mathlib.Core.List.{List}
 use Prim.Native.Nat.{ℕ}
 use lib.IntN.{pos}
 use lib.ListN.{replicate}
 use Rattle.codec.specs.Pick.{pick}
 use Rattle.codec.specs.Field.{Contents, body}
-use Rattle.codec.specs.Frame.{Outcome, accepted, refused, lenOf, readFrame}
+use Rattle.codec.specs.Frame.{Outcome, accepted, refused, readFrame}
+use Rattle.codec.specs.Meaning.{lenOf}
 use Rattle.layout.specs.declared.Record.{Record}
 use Rattle.layout.specs.declared.Reading.{Reading}
 use Rattle.layout.specs.declared.Answer.the-variants.{Accepted, Refused}
 use Rattle.layout.specs.Papers.{known, paperOf}
-use Rattle.layout.specs.Record.{flatten}
+use Rattle.layout.specs.Record.{SLOTS, flatten}
 
 -- what a field of a category holds, or the reader's refusal: every operation on a field begins with this
 unfoldable pub fieldOf : ℕ → List ℕ → Outcome Contents
@@ -19,7 +19,7 @@ fieldOf cat s = pick (known cat) (readFrame (body (paperOf cat)) s) (refused 1 0
 
 -- "A refused read gives a record of zeros"
 unfoldable pub noRecord : Record
-noRecord = record { cat = 0; items = 0; parts = replicate 8 0; numbers = replicate 77 (pos 0) }
+noRecord = record { cat = 0; items = 0; parts = replicate 8 0; numbers = replicate SLOTS (pos 0) }
 
 unfoldable pub shown : ℕ → List ℕ → Outcome Contents → Reading
 unfolding noRecord

@@ -1,5 +1,5 @@
 -- The sheet (01, the section of that name): key=value lines, each ended by a line feed.
-use mathlib.Core.Bool.{Bool, true, false}
+use mathlib.Core.Bool.{Bool, true}
 use mathlib.Core.List.{List, [], _∷_, _++_}
 use Prim.Native.Nat.{ℕ, zero, suc, _+_, _-_, _/_, _%_}
 use lib.Dec.{ltb, eqb}
@@ -9,11 +9,14 @@ use Rattle.codec.specs.Pick.{pick}
 use Rattle.codec.specs.Line.{Line, Held, count}
 use Rattle.codec.specs.Item.{Item, chained, single, flagged, linesOf}
 use Rattle.codec.specs.Field.{firstFlag, nextFlags, uncons, flags, Contents}
-use Rattle.codec.specs.Frame.{Outcome, accepted, refused, lenOf}
+use Rattle.codec.specs.Frame.{Outcome, accepted, refused}
+use Rattle.codec.specs.Meaning.{lenOf}
+use Rattle.layout.specs.declared.Answer.{Answer}
 use Rattle.layout.specs.Names.{text, Key, hidden, shown, angle, pressure, Named, namesOf}
 use Rattle.layout.specs.Papers.{paperOf}
 use Rattle.scope.specs.Angle.{udegOf}
 use Rattle.scope.specs.Reading.{fieldOf}
+use Rattle.scope.specs.Outputs.{withRoom, Leaves}
 
 -- ---- "All numbers are decimal, codes too"
 
@@ -34,16 +37,16 @@ signedDecimal (negsuc n) = text "-" ++ decimal (suc n)
 
 -- ---- one line; a number's lines
 
-unfoldable pub line : List ℕ → List ℕ → List ℕ
-line key value = key ++ (text "=" ++ (value ++ (10 ∷ [])))
+unfoldable pub keyLine : List ℕ → List ℕ → List ℕ
+keyLine key value = key ++ (text "=" ++ (value ++ (10 ∷ [])))
 
 -- "After each latitude and each longitude comes a line with `.udeg` added to the key .. After BPS comes `BPS.tenths`, 8,000 plus the number"
 unfoldable pub numberText : Key → ℤ → List ℕ
-unfolding line signedDecimal
+unfolding keyLine signedDecimal
 numberText hidden z = []
-numberText (shown k) z = line k (signedDecimal z)
-numberText (angle k) z = line k (signedDecimal z) ++ line (k ++ text ".udeg") (signedDecimal (udegOf z))
-numberText (pressure k) z = line k (signedDecimal z) ++ line (k ++ text ".tenths") (signedDecimal (pos 8_000 +ℤ z))
+numberText (shown k) z = keyLine k (signedDecimal z)
+numberText (angle k) z = keyLine k (signedDecimal z) ++ keyLine (k ++ text ".udeg") (signedDecimal (udegOf z))
+numberText (pressure k) z = keyLine k (signedDecimal z) ++ keyLine (k ++ text ".tenths") (signedDecimal (pos 8_000 +ℤ z))
 
 unfoldable pub numbersText : List Key → List ℤ → List ℕ
 unfolding numberText
@@ -76,9 +79,9 @@ linesText (t ∷ ts) (k ∷ ks) (l ∷ ls) zs = pick t (numbersText k (take (cou
 
 -- "M5N, SGV and STA begin with `ITEM.chain`, the parts": those whose chain can have several
 unfoldable pub chainText : Item → Named → ℕ → List ℕ
-unfolding line decimal
+unfolding keyLine decimal
 chainText (chained p [] ss) nm n = []
-chainText (chained p (q ∷ qs) ss) nm n = line (nm .name ++ text ".chain") (decimal n)
+chainText (chained p (q ∷ qs) ss) nm n = keyLine (nm .name ++ text ".chain") (decimal n)
 chainText (single l) nm n = []
 
 unfoldable pub itemText : Item → Named → Held → List ℕ
@@ -99,19 +102,23 @@ itemsText comma ds (nm ∷ nms) = pick (eqb (firstFlag ds) 1) (comma ++ (nm .nam
 -- ---- the whole sheet
 
 unfoldable pub refusalText : ℕ → ℕ → List ℕ
-unfolding line decimal
-refusalText n p = line (text "refused") (decimal n) ++ line (text "at") (decimal p)
+unfolding keyLine decimal
+refusalText n p = keyLine (text "refused") (decimal n) ++ keyLine (text "at") (decimal p)
 
 unfoldable pub fieldText : ℕ → List ℕ → Outcome Contents → List ℕ
 unfolding refusalText rowText itemsText
 fieldText cat s (refused n p) = refusalText n p
 fieldText cat s (accepted r) =
-    line (text "len") (decimal (lenOf s))
-    ++ (line (text "items") (itemsText [] (flags (r .0)) (namesOf cat))
-    ++ (rowText (flags (r .0)) (paperOf cat) (namesOf cat) (r .1) ++ line (text "end") (text "ok")))
+    keyLine (text "len") (decimal (lenOf s))
+    ++ (keyLine (text "items") (itemsText [] (flags (r .0)) (namesOf cat))
+    ++ (rowText (flags (r .0)) (paperOf cat) (namesOf cat) (r .1) ++ keyLine (text "end") (text "ok")))
 
 -- "The program reads one category octet and then a field"; "for empty input `cat=none`, `refused=2`, `at=0`"
 unfoldable pub sheetOf : List ℕ → List ℕ
 unfolding fieldText
-sheetOf [] = line (text "cat") (text "none") ++ refusalText 2 0
-sheetOf (cat ∷ s) = line (text "cat") (decimal cat) ++ fieldText cat s (fieldOf cat s)
+sheetOf [] = keyLine (text "cat") (text "none") ++ refusalText 2 0
+sheetOf (cat ∷ s) = keyLine (text "cat") (decimal cat) ++ fieldText cat s (fieldOf cat s)
+
+-- what listing an input promises of the answer, and of the output before and after
+abbrev pub Listed : List ℕ → List ℕ → Answer → List ℕ → Type 0
+Listed s out a out′ = Leaves (withRoom (length out) (sheetOf s)) out a out′

@@ -9,7 +9,8 @@ use Rattle.codec.specs.Codec.{number}
 use Rattle.codec.specs.Line.{toNum, limit, widths, count, clear, nums, inLimits, cells, line}
 use Rattle.codec.specs.Item.{slots, slotsOf, linesOf, beside, chain, isOne, subfields, item}
 use Rattle.codec.specs.Field.{firstFlag, nextFlags, uncons, row, allZero, indicator, body}
-use Rattle.codec.specs.Frame.{lenOf, settle, readFrame}
+use Rattle.codec.specs.Meaning.{lenOf}
+use Rattle.codec.specs.Frame.{settle, readFrame}
 use Rattle.layout.specs.Cat048.{cat048}
 use Rattle.layout.specs.Cat021.{cat021}
 use Rattle.layout.specs.Cat007.{cat007}
@@ -66,5 +67,5 @@ printed =
     ∷ []
 
 pub sheets-printed : map (λ (p : Printed). sheetOf (p .input)) printed ≡ map (λ (p : Printed). text (p .lines)) printed
-unfolding printed sheetOf fieldText refusalText rowText itemsText itemText chainText linesText linesThere partsThere subfieldsThere numbersText numberText signedDecimal decimal digitsOf sheet.line udegOf rounded namesOf names048 names021 names007 linesOf fieldOf known paperOf cat048 cat021 cat007 lenOf settle readFrame body indicator allZero row firstFlag nextFlags uncons slots item chain beside subfields isOne slotsOf line cells number toNum toSigned limit widths count clear nums inLimits total cut join
+unfolding printed sheetOf fieldText refusalText rowText itemsText itemText chainText linesText linesThere partsThere subfieldsThere numbersText numberText signedDecimal decimal digitsOf sheet.keyLine udegOf rounded namesOf names048 names021 names007 linesOf fieldOf known paperOf cat048 cat021 cat007 lenOf settle readFrame body indicator allZero row firstFlag nextFlags uncons slots item chain beside subfields isOne slotsOf line cells number toNum toSigned limit widths count clear nums inLimits total cut join
 sheets-printed = refl

@@ -2,10 +2,9 @@
 -- which says how the word's numbers stand on the sheet.
 use mathlib.Core.Bool.{Bool, _&&_}
 use mathlib.Core.List.{List, [], _∷_, _++_}
-use Prim.Native.Nat.{ℕ, zero, suc, _+_}
+use Prim.Native.Nat.{ℕ, suc, _+_}
 use lib.Dec.{ltb, eqb}
 use lib.IntN.{ℤ}
-use lib.ListN.{take, drop}
 use Rattle.codec.specs.Pick.{pick}
 use Rattle.layout.specs.Names.{text, Key, hidden, shown, angle, pressure}
 use Rattle.layout.specs.Record.{numberAt}
@@ -36,12 +35,6 @@ keysFrom w (x ∷ xs) = pick (markIs x) (meant x w ++ keysFrom [] xs) (keysFrom 
 unfoldable pub span : List ℕ → ℕ
 span [] = 0
 span (x ∷ xs) = suc (pick (eqb x 32) 0 (span xs))
-
--- the keys of so many groups
-unfoldable pub groups : ℕ → List ℕ → List (List Key)
-unfolding keysFrom span
-groups zero t = []
-groups (suc n) t = keysFrom [] (take (span t) t) ∷ groups n (drop (span t) t)
 
 -- the text of the numbers from a slot on, one for each key
 unfoldable pub keyed : List Key → List ℤ → ℕ → List ℕ

@@ -4,12 +4,13 @@ ghost use mathlib.Core.Path.{_≡_};
 ghost use mathlib.Core.List.{_++_};
 ghost use Prim.Native.Nat.{_+_, _-_, _≤_, _<_};
 ghost use lib.ListN.{length};
-ghost use Rattle.scope.specs.Sheet.{line, decimal};
+ghost use Rattle.scope.specs.Sheet.{keyLine, decimal};
 ghost use Rattle.text.specs.Typing.{Types};
 ghost use Rattle.sheet.specs.Keys.{span};
 ghost use Rattle.sheet.specs.Lines.{isThere, lineKeyed, linesKeyed, itemKeyed};
 ghost use Rattle.sheet.specs.Items.{ItemTyped};
 use crate::numbers;
+use layout::Numbers;
 
 // The octets of the first group of keys, with its space.
 fn span(keys: &[u8]) -> usize
@@ -25,24 +26,14 @@ fn span(keys: &[u8]) -> usize
     i
 }
 
-// One less, but not below 0.
-fn less(n: usize) -> usize
-    ensures { λ r. ⌜ r ≡ n - 1 ⌝ }
-{
-    if 0 < n {
-        return n - 1;
-    }
-    0
-}
-
 // Whether line b is there: a chain part if the count reaches it, a subfield if its flag is 1.
-fn is_there(numbers: &[i32; 77], count: usize, b: usize, parts: usize, base: usize) -> bool
+fn is_there(numbers: &Numbers, count: usize, b: usize, parts: usize, base: usize) -> bool
     requires { ⌜ base ≤ 255 ⌝ }
     ensures { λ r. ⌜ r ≡ isThere (now (numbers .entry)) count b parts base ⌝ }
 {
     if parts == 0 {
-        let row = tables::row_of(b);
-        return layout::is_one(layout::number_at(numbers, base + row.6));
+        let format = tables::format_of(b);
+        return layout::is_one(layout::number_at(numbers, base + format.flag));
     }
     0 < count
 }
@@ -50,7 +41,7 @@ fn is_there(numbers: &[i32; 77], count: usize, b: usize, parts: usize, base: usi
 // Line b with its group of keys, if it is there.
 fn line(
     keys: &[u8],
-    numbers: &[i32; 77],
+    numbers: &Numbers,
     count: usize,
     b: usize,
     parts: usize,
@@ -62,8 +53,8 @@ fn line(
     ensures { λ r. ⌜ Types (lineKeyed (now (keys .entry)) (now (numbers .entry)) count b parts base) (now (buf .entry)) at (now (buf .exit)) r ⌝ }
 {
     if is_there(numbers, count, b, parts, base) {
-        let row = tables::row_of(b);
-        return numbers::group(keys, 0, 0, numbers, base + row.5, at, &mut *buf);
+        let format = tables::format_of(b);
+        return numbers::group(keys, 0, 0, numbers, base + format.first, at, &mut *buf);
     }
     at
 }
@@ -71,7 +62,7 @@ fn line(
 // The left lines from line b on, parts of them chain parts, of which count are there.
 fn lines(
     keys: &[u8],
-    numbers: &[i32; 77],
+    numbers: &Numbers,
     count: usize,
     b: usize,
     parts: usize,
@@ -80,7 +71,7 @@ fn lines(
     at: usize,
     buf: &mut [u8; 4096],
 ) -> usize
-    requires { ⌜ (base ≤ 255) × (b + left ≤ 100) × (length (now keys) ≤ 1000) ⌝ }
+    requires { ⌜ (base ≤ 255) × (b + left ≤ 300) × (length (now keys) ≤ 1000) ⌝ }
     ensures { λ r. ⌜ Types (linesKeyed (now (keys .entry)) (now (numbers .entry)) count b parts left base) (now (buf .entry)) at (now (buf .exit)) r ⌝ }
 {
     if left == 0 {
@@ -91,9 +82,9 @@ fn lines(
     lines(
         &keys[end..],
         numbers,
-        less(count),
+        leaves::less(count, 1),
         b + 1,
-        less(parts),
+        leaves::less(parts, 1),
         left - 1,
         base,
         next,
@@ -106,7 +97,7 @@ fn item(
     keys: &[u8],
     count: usize,
     k: usize,
-    numbers: &[i32; 77],
+    numbers: &Numbers,
     base: usize,
     at: usize,
     buf: &mut [u8; 4096],
@@ -139,13 +130,13 @@ fn chained(
     keys: &[u8],
     count: usize,
     k: usize,
-    numbers: &[i32; 77],
+    numbers: &Numbers,
     base: usize,
     at: usize,
     buf: &mut [u8; 4096],
 ) -> usize
     requires { ⌜ (base ≤ 255) × (length (now keys) ≤ 1000) ⌝ }
-    ensures { λ r. ⌜ Types (line (now (key .entry)) (decimal count) ++ itemKeyed (now (keys .entry)) (now (numbers .entry)) count k base) (now (buf .entry)) at (now (buf .exit)) r ⌝ }
+    ensures { λ r. ⌜ Types (keyLine (now (key .entry)) (decimal count) ++ itemKeyed (now (keys .entry)) (now (numbers .entry)) count k base) (now (buf .entry)) at (now (buf .exit)) r ⌝ }
 {
     let next = text::pair(key, count as u64, at, &mut *buf);
     item(keys, count, k, numbers, base, next, &mut *buf)
@@ -158,7 +149,7 @@ fn chained(
 fn item_048(
     k: usize,
     count: usize,
-    numbers: &[i32; 77],
+    numbers: &Numbers,
     base: usize,
     at: usize,
     buf: &mut [u8; 4096],
@@ -204,7 +195,7 @@ fn item_048(
 fn item_021(
     k: usize,
     count: usize,
-    numbers: &[i32; 77],
+    numbers: &Numbers,
     base: usize,
     at: usize,
     buf: &mut [u8; 4096],
@@ -278,7 +269,7 @@ fn item_021(
 pub fn named(
     k: usize,
     count: usize,
-    numbers: &[i32; 77],
+    numbers: &Numbers,
     base: usize,
     at: usize,
     buf: &mut [u8; 4096],

@@ -9,45 +9,40 @@ ghost use lib.ListN.{length, drop};
 ghost use Rattle.codec.specs.Field.{flags};
 ghost use Rattle.layout.specs.Names.{text};
 ghost use Rattle.layout.specs.Papers.{known};
-ghost use Rattle.scope.specs.Sheet.{decimal, line, rowText, itemsText, refusalText, sheetOf};
-ghost use Rattle.promises.specs.Sheets.{Listed};
+ghost use Rattle.scope.specs.Sheet.{decimal, keyLine, rowText, itemsText, refusalText, sheetOf, Listed};
 ghost use Rattle.tables.specs.Shapes.{spotOk, rowOk, itemsFrom, heldFrom};
 ghost use Rattle.text.specs.Typing.{Types};
 ghost use Rattle.sheet.specs.Items.{namedAt};
 ghost use Rattle.sheet.specs.Rows.{namesFrom, placeText, commaOf};
 ghost use Rattle.sheet.specs.Whole.{recordText};
+ghost use Rattle.layout.specs.Record.{SLOTS};
 
 mod items;
 mod numbers;
 
 use layout::Answer;
+use layout::Numbers;
 use layout::Record;
-
-fn wide(o: u8) -> usize
-    ensures { λ r. ⌜ (r ≡ o) × (r ≤ 255) ⌝ }
-{
-    o as usize
-}
 
 // The item at a spot, if it is there.
 fn place(
     there: bool,
     count: u8,
-    numbers: &[i32; 77],
+    numbers: &Numbers,
     k: usize,
     at: usize,
     buf: &mut [u8; 4096],
 ) -> usize
-    requires { ⌜ T (spotOk k) × (length (now numbers) ≡ 77) ⌝ }
+    requires { ⌜ T (spotOk k) × (length (now numbers) ≡ SLOTS) ⌝ }
     ensures { λ r. ⌜ Types (placeText k there count (now (numbers .entry))) (now (buf .entry)) at (now (buf .exit)) r ⌝ }
 {
     if there {
         let spot = tables::spot_at(k);
         return items::named(
-            wide(spot.0),
-            wide(count),
+            leaves::wide(spot.0),
+            leaves::wide(count),
             numbers,
-            wide(spot.1),
+            leaves::wide(spot.1),
             at,
             &mut *buf,
         );
@@ -59,14 +54,14 @@ fn place(
 fn row(
     items: u8,
     parts: &[u8; 8],
-    numbers: &[i32; 77],
+    numbers: &Numbers,
     k: usize,
     i: usize,
     left: usize,
     at: usize,
     buf: &mut [u8; 4096],
 ) -> usize
-    requires { ⌜ (k + left ≤ 200) × (i + left ≤ 8) × T (rowOk k left) × (length (now numbers) ≡ 77) ⌝ }
+    requires { ⌜ (k + left ≤ 200) × (i + left ≤ 8) × T (rowOk k left) × (length (now numbers) ≡ SLOTS) ⌝ }
     ensures { λ r. ⌜ Types (rowText (drop i (flags items)) (itemsFrom k left) (namesFrom k left) (heldFrom k left i (now (parts .entry)) (now (numbers .entry)))) (now (buf .entry)) at (now (buf .exit)) r ⌝ }
 {
     if left == 0 {
@@ -138,7 +133,7 @@ fn names(
     if layout::present(items, i) {
         let behind = comma(first, at, &mut *buf);
         let spot = tables::spot_at(k);
-        let next = name(wide(spot.0), behind, &mut *buf);
+        let next = name(leaves::wide(spot.0), behind, &mut *buf);
         return names(items, k + 1, i + 1, left - 1, false, next, &mut *buf);
     }
     names(items, k + 1, i + 1, left - 1, first, at, &mut *buf)
@@ -154,7 +149,7 @@ fn refusal(no: u8, place: usize, at: usize, buf: &mut [u8; 4096]) -> usize
 
 // The lines of a record that was read from len octets.
 fn accepted(kept: Record, len: usize, at: usize, buf: &mut [u8; 4096]) -> usize
-    requires { ⌜ (known (kept .cat) ≡ true) × (length (kept .numbers) ≡ 77) ⌝ }
+    requires { ⌜ (known (kept .cat) ≡ true) × (length (kept .numbers) ≡ SLOTS) ⌝ }
     ensures { λ r. ⌜ Types (recordText kept len) (now (buf .entry)) at (now (buf .exit)) r ⌝ }
 {
     let first = tables::spot_of(kept.cat);
@@ -170,7 +165,7 @@ fn accepted(kept: Record, len: usize, at: usize, buf: &mut [u8; 4096]) -> usize
 }
 
 fn category(cat: u8, at: usize, buf: &mut [u8; 4096]) -> usize
-    ensures { λ r. ⌜ Types (line (text "cat") (decimal cat)) (now (buf .entry)) at (now (buf .exit)) r ⌝ }
+    ensures { λ r. ⌜ Types (keyLine (text "cat") (decimal cat)) (now (buf .entry)) at (now (buf .exit)) r ⌝ }
 {
     text::pair(b"cat", cat as u64, at, &mut *buf)
 }

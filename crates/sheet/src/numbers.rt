@@ -7,9 +7,10 @@ ghost use lib.ListN.{length, take, drop};
 ghost use Rattle.layout.specs.Names.{shown, angle, pressure, text};
 ghost use Rattle.layout.specs.Record.{numberAt};
 ghost use Rattle.scope.specs.Angle.{udegOf};
-ghost use Rattle.scope.specs.Sheet.{line, signedDecimal, numberText};
+ghost use Rattle.scope.specs.Sheet.{keyLine, signedDecimal, numberText};
 ghost use Rattle.text.specs.Typing.{Types};
 ghost use Rattle.sheet.specs.Keys.{markIs, meant, slotsIn, keysFrom, keyed};
+use layout::Numbers;
 
 // Latitude and longitude, numbers of 24 bits.
 pub struct Position {
@@ -28,7 +29,7 @@ pub struct Offset {
     pub tos: i32,
 }
 
-fn position_at(numbers: &[i32; 77], slot: usize) -> Position
+fn position_at(numbers: &Numbers, slot: usize) -> Position
     requires { ⌜ slot ≤ 5000 ⌝ }
     ensures { λ r. ⌜ (r .lat ≡ numberAt (now (numbers .entry)) slot) × (r .lon ≡ numberAt (now (numbers .entry)) (slot + 1)) ⌝ }
 {
@@ -37,7 +38,7 @@ fn position_at(numbers: &[i32; 77], slot: usize) -> Position
     Position { lat: lat, lon: lon }
 }
 
-fn altitude_at(numbers: &[i32; 77], slot: usize) -> Altitude
+fn altitude_at(numbers: &Numbers, slot: usize) -> Altitude
     requires { ⌜ slot ≤ 5000 ⌝ }
     ensures { λ r. ⌜ (r .res ≡ numberAt (now (numbers .entry)) slot) × (r .ga ≡ numberAt (now (numbers .entry)) (slot + 1)) ⌝ }
 {
@@ -46,7 +47,7 @@ fn altitude_at(numbers: &[i32; 77], slot: usize) -> Altitude
     Altitude { res: res, ga: ga }
 }
 
-fn offset_at(numbers: &[i32; 77], slot: usize) -> Offset
+fn offset_at(numbers: &Numbers, slot: usize) -> Offset
     ensures { λ r. ⌜ r .tos ≡ numberAt (now (numbers .entry)) slot ⌝ }
 {
     let tos = layout::number_at(numbers, slot);
@@ -55,14 +56,14 @@ fn offset_at(numbers: &[i32; 77], slot: usize) -> Offset
 
 // A line whose key is a name and a further name.
 fn pair(name: &[u8], more: &[u8], z: i64, at: usize, buf: &mut [u8; 4096]) -> usize
-    ensures { λ r. ⌜ Types (line (now (name .entry) ++ now (more .entry)) (signedDecimal z)) (now (buf .entry)) at (now (buf .exit)) r ⌝ }
+    ensures { λ r. ⌜ Types (keyLine (now (name .entry) ++ now (more .entry)) (signedDecimal z)) (now (buf .entry)) at (now (buf .exit)) r ⌝ }
 {
     let behind = text::word(name, at, &mut *buf);
     text::signed_pair(more, z, behind, &mut *buf)
 }
 
 fn number(name: &[u8], more: &[u8], n: i32, at: usize, buf: &mut [u8; 4096]) -> usize
-    ensures { λ r. ⌜ Types (line (now (name .entry) ++ now (more .entry)) (signedDecimal n)) (now (buf .entry)) at (now (buf .exit)) r ⌝ }
+    ensures { λ r. ⌜ Types (keyLine (now (name .entry) ++ now (more .entry)) (signedDecimal n)) (now (buf .entry)) at (now (buf .exit)) r ⌝ }
 {
     pair(name, more, n as i64, at, &mut *buf)
 }
@@ -82,7 +83,7 @@ fn coordinate(
     at: usize,
     buf: &mut [u8; 4096],
 ) -> usize
-    ensures { λ r. ⌜ Types (line (now (name .entry) ++ now (more .entry)) (signedDecimal n) ++ line (now (name .entry) ++ now (udeg .entry)) (signedDecimal (udegOf n))) (now (buf .entry)) at (now (buf .exit)) r ⌝ }
+    ensures { λ r. ⌜ Types (keyLine (now (name .entry) ++ now (more .entry)) (signedDecimal n) ++ keyLine (now (name .entry) ++ now (udeg .entry)) (signedDecimal (udegOf n))) (now (buf .entry)) at (now (buf .exit)) r ⌝ }
 {
     let next = number(name, more, n, at, &mut *buf);
     pair(name, udeg, angle::udeg(n), next, &mut *buf)
@@ -114,7 +115,7 @@ fn pressure_lines(name: &[u8], n: i32, at: usize, buf: &mut [u8; 4096]) -> usize
 fn marked(
     mark: u8,
     name: &[u8],
-    numbers: &[i32; 77],
+    numbers: &Numbers,
     slot: usize,
     at: usize,
     buf: &mut [u8; 4096],
@@ -160,7 +161,7 @@ pub fn group(
     keys: &[u8],
     from: usize,
     i: usize,
-    numbers: &[i32; 77],
+    numbers: &Numbers,
     slot: usize,
     at: usize,
     buf: &mut [u8; 4096],

@@ -1,6 +1,6 @@
 -- What holds of every line, row, shape and spot.
 pub mod Lines
-pub mod Rows
+pub mod Formats
 pub mod Mask
 pub mod Shapes
 pub mod Spots

@@ -1,6 +1,6 @@
 -- The papers as the constant tables have them: the items that some paper has, each once; their chain parts and subfields line by line; and where each category keeps them.
-use mathlib.Core.Bool.{Bool, true, false, _&&_}
-use mathlib.Core.List.{List, [], _∷_, _++_}
+use mathlib.Core.Bool.{Bool, true, _&&_}
+use mathlib.Core.List.{List, [], _∷_, _++_, map}
 use Prim.Native.Nat.{ℕ, zero, suc, _+_, _-_, _*_, _^_, _/_, _%_}
 use lib.Dec.{leb, eqb}
 use lib.IntN.{pos, negsuc}
@@ -10,7 +10,9 @@ use Rattle.codec.specs.Pick.{pick}
 use Rattle.codec.specs.Radix.{total}
 use Rattle.codec.specs.Line.{Kind, plain, signed, limited, Piece, spare, num, Line, widths, count}
 use Rattle.codec.specs.Item.{Item, single, linesOf, slots}
-use Rattle.tables.specs.declared.Row.{Row}
+use Rattle.tables.specs.declared.Length.{Length}
+use Rattle.tables.specs.declared.Pieces.{Pieces}
+use Rattle.tables.specs.declared.Format.{Format}
 use Rattle.tables.specs.declared.Spot.{Spot}
 use Rattle.layout.specs.Cat048.{cat048}
 use Rattle.layout.specs.Cat021.{cat021}
@@ -98,8 +100,32 @@ narrow [] = true
 narrow (spare w ∷ ps) = narrow ps
 narrow (num k w ∷ ps) = leb w 24 && narrow ps
 
-abbrev pub rowOf : Line × ℕ → Row
-rowOf p = (p .0 .octets, spareMask (p .0), codeOf (p .0 .pieces), length (p .0 .pieces), p .0 .fx, p .1, p .0 .flag)
+-- ---- the tables, as the papers have them: of each line its octets and spare bits, and its pieces
+
+abbrev pub lengthOf : Line × ℕ → Length
+lengthOf p = (p .0 .octets, spareMask (p .0))
+
+abbrev pub takenOf : Line × ℕ → Pieces
+takenOf p = (codeOf (p .0 .pieces), length (p .0 .pieces), p .0 .fx, p .1, p .0 .flag)
+
+unfoldable pub lengths : List Length
+unfolding placed spareMask
+lengths = map lengthOf placed
+
+unfoldable pub pieces : List Pieces
+unfolding placed codeOf
+pieces = map takenOf placed
+
+-- both by their names
+abbrev pub named : Length → Pieces → Format
+named l p = record { octets = l .0; spare = l .1; pieces = p .0; runs = p .1; below = p .2; first = p .3; flag = p .4 }
+
+abbrev pub formatOf : Line × ℕ → Format
+formatOf p = named (lengthOf p) (takenOf p)
+
+-- a line that no paper has, behind every line that a later edition may add
+abbrev pub NO_LINE : ℕ
+NO_LINE = 255
 
 -- ---- where each category keeps its items: which item, and the slot where its numbers begin
 

@@ -7,8 +7,8 @@ use lib.IntN.{ℤ}
 use lib.ListN.{length, getD, take, drop}
 use Rattle.codec.specs.Line.{Line, Held}
 use Rattle.codec.specs.Item.{Item, chained, single, slots, linesOf}
-use Rattle.layout.specs.Record.{regroup}
-use Rattle.tables.specs.Lines.{items, lineAt, firstAt, countAt, itemAt, spotAt}
+use Rattle.layout.specs.Record.{SLOTS, regroup}
+use Rattle.tables.specs.Lines.{NO_LINE, items, lineAt, firstAt, countAt, itemAt, spotAt}
 use Rattle.tables.specs.declared.Shape.{Shape}
 
 -- n lines from line b on
@@ -47,7 +47,7 @@ shapes = shapesFrom 0 items
 
 unfoldable pub shapeAt : ℕ → Shape
 unfolding shapes
-shapeAt k = getD shapes k (46, 0, 0)
+shapeAt k = getD shapes k (NO_LINE, 0, 0)
 
 -- of n lines from line b on, the slots of each begin where those of the one before end
 unfoldable pub inTurn : ℕ → ℕ → Bool
@@ -63,7 +63,7 @@ itemOn k = itemAt (spotAt k .0)
 
 -- its slots are slots of the record
 unfoldable pub spotOk : ℕ → Bool
-spotOk k = leb (spotAt k .1 + slots (itemOn k)) 77
+spotOk k = leb (spotAt k .1 + slots (itemOn k)) SLOTS
 
 -- and so for n spots, the slots of each beginning where those of the one before end
 unfoldable pub rowOk : ℕ → ℕ → Bool

@@ -1,158 +1,422 @@
-// The constant tables: every chain part and subfield of the papers with its length and spare mask, the lines of each item, and where each category keeps its items.
-// Promises: the tables say what the papers' data say; a lookup past its table gives an empty row. Stands on layout.
+// The constant tables: every chain part and subfield of the papers with its length and spare bits, the lines of each item, and where each category keeps its items.
+// Promises: the tables say what the papers' data say; a lookup past its table gives an empty line. Stands on layout.
 ghost use mathlib.Core.Path.{_≡_};
-ghost use Rattle.tables.specs.Lines.{placedAt, rowOf, spotAt, spotOf};
-ghost use Rattle.tables.specs.Shapes.{shapeAt};
+ghost use Prim.Native.Nat.{_<_};
+ghost use Rattle.codec.specs.Laws.Arms.{Past};
+ghost use Rattle.tables.specs.Lines.{placedAt, formatOf, lengths, pieces, spots, spotAt, spotOf};
+ghost use Rattle.tables.specs.Shapes.{shapes, shapeAt};
+use layout::Cat021;
+use layout::Cat048;
 
-// A chain part or a subfield: its octets, and the bits of them that are spare; its pieces, an octet each, the first lowest: kind × 32 + bits,
-// kind 0 spare, 1 plain, 2 signed, 3 a latitude, 4 an altitude; the number of pieces; the bits below them (FX); the first slot in the
-// item; the number of the chain that says that it is there.
-pub struct Row(
-    pub usize,
-    pub u64,
-    pub u64,
-    pub usize,
-    pub u64,
-    pub usize,
-    pub usize,
-);
+// The format of a line, a chain part or a subfield.
+pub struct Format {
+    // How many octets it has, and which bits of them are spare.
+    pub octets: usize,
+    pub spare: u64,
+    // Its pieces, an octet each, the first lowest: kind × 32 + bits, kind 0 spare, 1 plain, 2 signed, 3 a latitude, 4 an altitude; and how many there are.
+    pub pieces: u64,
+    pub runs: usize,
+    // The bits below its pieces: 1 in a chain part, for FX, and 0 in a subfield.
+    pub below: u64,
+    // The slot of its first number, counted from its item's first.
+    pub first: usize,
+    // Which number of the chain says that it is there, if it is a subfield.
+    pub flag: usize,
+}
 
-// The table of item and subfield lengths, an item's chain parts first: a line by its number. It is a match, since an array that is read at a variable
-// place is copied whole at each lookup.
-pub fn row_of(line: usize) -> Row
-    ensures { λ r. ⌜ r ≡ rowOf (placedAt line) ⌝ }
+// The table of item and subfield lengths, beside the papers: of each chain part and subfield its octets, and its spare bits in the order in which the paper
+// prints its bits, an octet's together. An item's chain parts come first.
+struct Length(usize, u64);
+
+const LENGTHS: [Length; 46] = [
+    // document 000, 2.3 MD5
+    Length(1, 0b00000000), // part 1
+    Length(1, 0b00000001), // SUM
+    Length(4, 0b11000000_00000000_11000000_11000000), // PMN
+    Length(6, 0b00000000_00000000_00000000_00000000_00000000_00000000), // POS
+    Length(2, 0b10000000_00000000), // GA
+    Length(2, 0b00010000_00000000), // EM1
+    Length(1, 0b00000000), // TOS
+    Length(1, 0b11000000), // XP
+    // document 000, 2.4 M5N; document 004, 2.4
+    Length(1, 0b00000000), // part 1
+    Length(1, 0b01111110), // part 2
+    Length(1, 0b00000001), // SUM
+    Length(4, 0b11000000_00000000_11110000_00000000), // PMN
+    Length(6, 0b00000000_00000000_00000000_00000000_00000000_00000000), // POS
+    Length(2, 0b10000000_00000000), // GA
+    Length(2, 0b00010000_00000000), // EM1
+    Length(1, 0b00000000), // TOS
+    Length(1, 0b11000000), // XP
+    Length(1, 0b11100000), // FOM
+    // document 000, 2.5 M4E; document 004, 2.5
+    Length(1, 0b11111000), // part 1
+    // document 000, 2.6 RPC; document 004, 2.6
+    Length(1, 0b00001110), // part 1
+    Length(1, 0b00000000), // SCO
+    Length(2, 0b00000000_00000000), // SCR
+    Length(2, 0b00000000_00000000), // RW
+    Length(2, 0b00000000_00000000), // AR
+    // document 000, 2.7 ERR; document 004, 2.7
+    Length(3, 0b00000000_00000000_00000000),
+    // document 003, 2.3 BPS
+    Length(2, 0b11110000_00000000),
+    // document 003, 2.4 SelH
+    Length(2, 0b11110000_00000000),
+    // document 003, 2.5 NAV
+    Length(1, 0b00000011),
+    // document 003, 2.6 GAO
+    Length(1, 0b00000000),
+    // document 003, 2.7 SGV
+    Length(2, 0b00000000_00000000), // part 1
+    Length(1, 0b00000000), // part 2
+    // document 003, 2.8 STA
+    Length(1, 0b00000000), // part 1
+    Length(1, 0b00000000), // part 2
+    Length(1, 0b00000000), // part 3
+    Length(1, 0b00000000), // part 4
+    Length(1, 0b00000000), // part 5
+    Length(1, 0b00000010), // part 6
+    // document 003, 2.9 TNH
+    Length(2, 0b00000000_00000000),
+    // document 003, 2.10 MES
+    Length(1, 0b00000010), // part 1
+    Length(1, 0b00000000), // SUM
+    Length(4, 0b11000000_00000000_11111000_00000000), // PNO
+    Length(2, 0b01010000_00000000), // EM1
+    Length(1, 0b11000000), // XP
+    Length(1, 0b11100000), // FOM
+    Length(2, 0b01010000_00000000), // M2
+    // document 004, 2.3 TA
+    Length(4, 0b11000000_00000000_11000000_00000000),
+];
+
+// The same lines by their pieces, in the order of the fields of a format: pieces, runs, bits below, first slot, flag.
+struct Pieces(u64, usize, u64, usize, usize);
+
+const PIECES: [Pieces; 46] = [
+    // document 000, 2.3 MD5
+    Pieces(0x21_21_21_21_21_21_21, 7, 1, 0, 0), // part 1
+    Pieces(0x01_21_21_21_21_21_21_21, 8, 0, 7, 0), // SUM
+    Pieces(0x26_02_25_21_02_2E_02, 7, 0, 14, 1), // PMN
+    Pieces(0x58_78, 2, 0, 18, 2), // POS
+    Pieces(0x8E_21_01, 3, 0, 20, 3), // GA
+    Pieces(0x2C_01_21_21_21, 5, 0, 22, 4), // EM1
+    Pieces(0x48, 1, 0, 26, 5), // TOS
+    Pieces(0x21_21_21_21_21_21_02, 7, 0, 27, 6), // XP
+    // document 000, 2.4 M5N; document 004, 2.4
+    Pieces(0x21_21_21_21_21_21_21, 7, 1, 0, 0), // part 1
+    Pieces(0x06_21, 2, 1, 7, 0), // part 2
+    Pieces(0x01_21_21_21_21_21_21_21, 8, 0, 8, 0), // SUM
+    Pieces(0x2B_21_04_2E_02, 5, 0, 15, 1), // PMN
+    Pieces(0x58_78, 2, 0, 18, 2), // POS
+    Pieces(0x8E_21_01, 3, 0, 20, 3), // GA
+    Pieces(0x2C_01_21_21_21, 5, 0, 22, 4), // EM1
+    Pieces(0x48, 1, 0, 26, 5), // TOS
+    Pieces(0x21_21_21_21_21_21_02, 7, 0, 27, 6), // XP
+    Pieces(0x25_03, 2, 0, 33, 7), // FOM
+    // document 000, 2.5 M4E; document 004, 2.5
+    Pieces(0x22_05, 2, 1, 0, 0), // part 1
+    // document 000, 2.6 RPC; document 004, 2.6
+    Pieces(0x03_21_21_21_21, 5, 1, 0, 0), // part 1
+    Pieces(0x28, 1, 0, 4, 0), // SCO
+    Pieces(0x30, 1, 0, 5, 1), // SCR
+    Pieces(0x30, 1, 0, 6, 2), // RW
+    Pieces(0x30, 1, 0, 7, 3), // AR
+    // document 000, 2.7 ERR; document 004, 2.7
+    Pieces(0x38, 1, 0, 0, 0),
+    // document 003, 2.3 BPS
+    Pieces(0x2C_04, 2, 0, 0, 0),
+    // document 003, 2.4 SelH
+    Pieces(0x2A_21_21_04, 4, 0, 0, 0),
+    // document 003, 2.5 NAV
+    Pieces(0x02_21_21_21_21_21_21, 7, 0, 0, 0),
+    // document 003, 2.6 GAO
+    Pieces(0x25_23, 2, 0, 0, 0),
+    // document 003, 2.7 SGV
+    Pieces(0x2B_21_21_21_21, 5, 1, 0, 0), // part 1
+    Pieces(0x27, 1, 1, 5, 0), // part 2
+    // document 003, 2.8 STA
+    Pieces(0x21_21_22_21_21_21, 6, 1, 0, 0), // part 1
+    Pieces(0x22_21_23_21, 4, 1, 6, 0), // part 2
+    Pieces(0x21_21_21_21_22_21, 6, 1, 10, 0), // part 3
+    Pieces(0x23_21_22_21, 4, 1, 16, 0), // part 4
+    Pieces(0x23_21_22_21, 4, 1, 20, 0), // part 5
+    Pieces(0x01_25_21, 3, 1, 24, 0), // part 6
+    // document 003, 2.9 TNH
+    Pieces(0x30, 1, 0, 0, 0),
+    // document 003, 2.10 MES
+    Pieces(0x01_21_21_21_21_21_21, 7, 1, 0, 0), // part 1
+    Pieces(0x21_21_21_21_21_21_21_21, 8, 0, 6, 0), // SUM
+    Pieces(0x2B_05_2E_02, 4, 0, 14, 1), // PNO
+    Pieces(0x2C_01_21_01_21, 5, 0, 16, 2), // EM1
+    Pieces(0x21_21_21_21_21_21_02, 7, 0, 19, 3), // XP
+    Pieces(0x25_03, 2, 0, 25, 4), // FOM
+    Pieces(0x2C_01_21_01_21, 5, 0, 26, 5), // M2
+    // document 004, 2.3 TA
+    Pieces(0x4E_02_4E_02, 4, 0, 0, 0),
+];
+
+// Their rules: the tables say what the papers' data say.
+fn table_of_lengths() -> [Length; 46]
+    ensures { λ r. ⌜ r ≡ lengths ⌝ }
 {
+    LENGTHS
+}
+
+fn table_of_pieces() -> [Pieces; 46]
+    ensures { λ r. ⌜ r ≡ pieces ⌝ }
+{
+    PIECES
+}
+
+// What stands at place i of both tables, which is the place asked for.
+fn line_in(t: [Length; 46], u: [Pieces; 46], i: usize, line: usize) -> Format
+    requires { ⌜ (t ≡ lengths) × (u ≡ pieces) × (i ≡ line) × (i < 46) ⌝ }
+    ensures { λ r. ⌜ r ≡ formatOf (placedAt line) ⌝ }
+{
+    let l = t[i];
+    let p = u[i];
+    Format {
+        octets: l.0,
+        spare: l.1,
+        pieces: p.0,
+        runs: p.1,
+        below: p.2,
+        first: p.3,
+        flag: p.4,
+    }
+}
+
+// Behind the last line there is an empty one.
+fn no_line(line: usize) -> Format
+    requires { ⌜ Past 46 line ⌝ }
+    ensures { λ r. ⌜ r ≡ formatOf (placedAt line) ⌝ }
+{
+    Format {
+        octets: 0,
+        spare: 0,
+        pieces: 0,
+        runs: 0,
+        below: 0,
+        first: 0,
+        flag: 0,
+    }
+}
+
+// A line of the table by its number. Each place stands here as a literal, so that the table's entries are constants of the code: an array that is read at a
+// variable place is built whole at each lookup.
+pub fn format_of(line: usize) -> Format
+    ensures { λ r. ⌜ r ≡ formatOf (placedAt line) ⌝ }
+{
+    let t = table_of_lengths();
+    let u = table_of_pieces();
     match line {
-        // 048, document 000, 2.3 MD5
-        0 => Row(1, 0x00, 0x21_2121_2121_2121, 7, 1, 0, 0),
-        1 => Row(1, 0x01, 0x121_2121_2121_2121, 8, 0, 7, 0), // SUM
-        2 => Row(4, 0xC000_C0C0, 0x26_0225_2102_2E02, 7, 0, 14, 1), // PMN
-        3 => Row(6, 0x00, 0x5878, 2, 0, 18, 2), // POS
-        4 => Row(2, 0x8000, 0x8E_2101, 3, 0, 20, 3), // GA
-        5 => Row(2, 0x1000, 0x2C_0121_2121, 5, 0, 22, 4), // EM1
-        6 => Row(1, 0x00, 0x48, 1, 0, 26, 5), // TOS
-        7 => Row(1, 0xC0, 0x21_2121_2121_2102, 7, 0, 27, 6), // XP
-        // 2.4 M5N; 007, document 004, 2.4
-        8 => Row(1, 0x00, 0x21_2121_2121_2121, 7, 1, 0, 0),
-        9 => Row(1, 0x7E, 0x621, 2, 1, 7, 0),
-        10 => Row(1, 0x01, 0x121_2121_2121_2121, 8, 0, 8, 0), // SUM
-        11 => Row(4, 0xC000_F000, 0x2B_2104_2E02, 5, 0, 15, 1), // PMN
-        12 => Row(6, 0x00, 0x5878, 2, 0, 18, 2), // POS
-        13 => Row(2, 0x8000, 0x8E_2101, 3, 0, 20, 3), // GA
-        14 => Row(2, 0x1000, 0x2C_0121_2121, 5, 0, 22, 4), // EM1
-        15 => Row(1, 0x00, 0x48, 1, 0, 26, 5), // TOS
-        16 => Row(1, 0xC0, 0x21_2121_2121_2102, 7, 0, 27, 6), // XP
-        17 => Row(1, 0xE0, 0x2503, 2, 0, 33, 7), // FOM
-        // 2.5 M4E; 007, 2.5
-        18 => Row(1, 0xF8, 0x2205, 2, 1, 0, 0),
-        // 2.6 RPC; 007, 2.6
-        19 => Row(1, 0x0E, 0x3_2121_2121, 5, 1, 0, 0),
-        20 => Row(1, 0x00, 0x28, 1, 0, 4, 0), // SCO
-        21 => Row(2, 0x00, 0x30, 1, 0, 5, 1), // SCR
-        22 => Row(2, 0x00, 0x30, 1, 0, 6, 2), // RW
-        23 => Row(2, 0x00, 0x30, 1, 0, 7, 3), // AR
-        // 2.7 ERR; 007, 2.7
-        24 => Row(3, 0x00, 0x38, 1, 0, 0, 0),
-        // 021, document 003, 2.3 BPS
-        25 => Row(2, 0xF000, 0x2C04, 2, 0, 0, 0),
-        // 2.4 SelH
-        26 => Row(2, 0xF000, 0x2A21_2104, 4, 0, 0, 0),
-        // 2.5 NAV
-        27 => Row(1, 0x03, 0x2_2121_2121_2121, 7, 0, 0, 0),
-        // 2.6 GAO
-        28 => Row(1, 0x00, 0x2523, 2, 0, 0, 0),
-        // 2.7 SGV
-        29 => Row(2, 0x00, 0x2B_2121_2121, 5, 1, 0, 0),
-        30 => Row(1, 0x00, 0x27, 1, 1, 5, 0),
-        // 2.8 STA
-        31 => Row(1, 0x00, 0x2121_2221_2121, 6, 1, 0, 0),
-        32 => Row(1, 0x00, 0x2221_2321, 4, 1, 6, 0),
-        33 => Row(1, 0x00, 0x2121_2121_2221, 6, 1, 10, 0),
-        34 => Row(1, 0x00, 0x2321_2221, 4, 1, 16, 0),
-        35 => Row(1, 0x00, 0x2321_2221, 4, 1, 20, 0),
-        36 => Row(1, 0x02, 0x1_2521, 3, 1, 24, 0),
-        // 2.9 TNH
-        37 => Row(2, 0x00, 0x30, 1, 0, 0, 0),
-        // 2.10 MES
-        38 => Row(1, 0x02, 0x1_2121_2121_2121, 7, 1, 0, 0),
-        39 => Row(1, 0x00, 0x2121_2121_2121_2121, 8, 0, 6, 0), // SUM
-        40 => Row(4, 0xC000_F800, 0x2B05_2E02, 4, 0, 14, 1), // PNO
-        41 => Row(2, 0x5000, 0x2C_0121_0121, 5, 0, 16, 2), // EM1
-        42 => Row(1, 0xC0, 0x21_2121_2121_2102, 7, 0, 19, 3), // XP
-        43 => Row(1, 0xE0, 0x2503, 2, 0, 25, 4), // FOM
-        44 => Row(2, 0x5000, 0x2C_0121_0121, 5, 0, 26, 5), // M2
-        // 007, document 004, 2.3 TA
-        45 => Row(4, 0xC000_C000, 0x4E02_4E02, 4, 0, 0, 0),
-        _ => Row(0, 0, 0, 0, 0, 0, 0),
+        0 => line_in(t, u, 0, line),
+        1 => line_in(t, u, 1, line),
+        2 => line_in(t, u, 2, line),
+        3 => line_in(t, u, 3, line),
+        4 => line_in(t, u, 4, line),
+        5 => line_in(t, u, 5, line),
+        6 => line_in(t, u, 6, line),
+        7 => line_in(t, u, 7, line),
+        8 => line_in(t, u, 8, line),
+        9 => line_in(t, u, 9, line),
+        10 => line_in(t, u, 10, line),
+        11 => line_in(t, u, 11, line),
+        12 => line_in(t, u, 12, line),
+        13 => line_in(t, u, 13, line),
+        14 => line_in(t, u, 14, line),
+        15 => line_in(t, u, 15, line),
+        16 => line_in(t, u, 16, line),
+        17 => line_in(t, u, 17, line),
+        18 => line_in(t, u, 18, line),
+        19 => line_in(t, u, 19, line),
+        20 => line_in(t, u, 20, line),
+        21 => line_in(t, u, 21, line),
+        22 => line_in(t, u, 22, line),
+        23 => line_in(t, u, 23, line),
+        24 => line_in(t, u, 24, line),
+        25 => line_in(t, u, 25, line),
+        26 => line_in(t, u, 26, line),
+        27 => line_in(t, u, 27, line),
+        28 => line_in(t, u, 28, line),
+        29 => line_in(t, u, 29, line),
+        30 => line_in(t, u, 30, line),
+        31 => line_in(t, u, 31, line),
+        32 => line_in(t, u, 32, line),
+        33 => line_in(t, u, 33, line),
+        34 => line_in(t, u, 34, line),
+        35 => line_in(t, u, 35, line),
+        36 => line_in(t, u, 36, line),
+        37 => line_in(t, u, 37, line),
+        38 => line_in(t, u, 38, line),
+        39 => line_in(t, u, 39, line),
+        40 => line_in(t, u, 40, line),
+        41 => line_in(t, u, 41, line),
+        42 => line_in(t, u, 42, line),
+        43 => line_in(t, u, 43, line),
+        44 => line_in(t, u, 44, line),
+        45 => line_in(t, u, 45, line),
+        _ => no_line(line),
     }
 }
 
 // The first line of an item, the parts of its chain, 0 for one subfield without a chain, and its subfields.
 pub struct Shape(pub usize, pub usize, pub usize);
 
+const SHAPES: [Shape; 14] = [
+    Shape(0, 1, 7), // MD5
+    Shape(8, 2, 8), // M5N
+    Shape(18, 1, 0), // M4E
+    Shape(19, 1, 4), // RPC
+    Shape(24, 0, 0), // ERR
+    Shape(25, 0, 0), // BPS
+    Shape(26, 0, 0), // SelH
+    Shape(27, 0, 0), // NAV
+    Shape(28, 0, 0), // GAO
+    Shape(29, 2, 0), // SGV
+    Shape(31, 6, 0), // STA
+    Shape(37, 0, 0), // TNH
+    Shape(38, 1, 6), // MES
+    Shape(45, 0, 0), // TA
+];
+
+// Its rule, and below it a lookup at literal places, as for the lengths.
+fn table_of_shapes() -> [Shape; 14]
+    ensures { λ r. ⌜ r ≡ shapes ⌝ }
+{
+    SHAPES
+}
+
+fn shape_in(t: [Shape; 14], i: usize, k: usize) -> Shape
+    requires { ⌜ (t ≡ shapes) × (i ≡ k) × (i < 14) ⌝ }
+    ensures { λ r. ⌜ r ≡ shapeAt k ⌝ }
+{
+    t[i]
+}
+
+// An item that no paper has is one line that no paper has: its number is behind every line that a later edition may add.
+pub const NO_LINE: usize = 255;
+
+fn no_shape(k: usize) -> Shape
+    requires { ⌜ Past 14 k ⌝ }
+    ensures { λ r. ⌜ r ≡ shapeAt k ⌝ }
+{
+    Shape(NO_LINE, 0, 0)
+}
+
 pub fn shape_at(k: usize) -> Shape
     ensures { λ r. ⌜ r ≡ shapeAt k ⌝ }
 {
+    let t = table_of_shapes();
     match k {
-        0 => Shape(0, 1, 7), // MD5
-        1 => Shape(8, 2, 8), // M5N
-        2 => Shape(18, 1, 0), // M4E
-        3 => Shape(19, 1, 4), // RPC
-        4 => Shape(24, 0, 0), // ERR
-        5 => Shape(25, 0, 0), // BPS
-        6 => Shape(26, 0, 0), // SelH
-        7 => Shape(27, 0, 0), // NAV
-        8 => Shape(28, 0, 0), // GAO
-        9 => Shape(29, 2, 0), // SGV
-        10 => Shape(31, 6, 0), // STA
-        11 => Shape(37, 0, 0), // TNH
-        12 => Shape(38, 1, 6), // MES
-        13 => Shape(45, 0, 0), // TA
-        _ => Shape(46, 0, 0),
+        0 => shape_in(t, 0, k),
+        1 => shape_in(t, 1, k),
+        2 => shape_in(t, 2, k),
+        3 => shape_in(t, 3, k),
+        4 => shape_in(t, 4, k),
+        5 => shape_in(t, 5, k),
+        6 => shape_in(t, 6, k),
+        7 => shape_in(t, 7, k),
+        8 => shape_in(t, 8, k),
+        9 => shape_in(t, 9, k),
+        10 => shape_in(t, 10, k),
+        11 => shape_in(t, 11, k),
+        12 => shape_in(t, 12, k),
+        13 => shape_in(t, 13, k),
+        _ => no_shape(k),
     }
 }
 
 // Which item it is, and the slot where its numbers begin.
 pub struct Spot(pub u8, pub u8);
 
-// The items of 048, of 021 and of 007, in the order of their bits.
+// The items of each category, in the order of their bits.
 const SPOTS: [Spot; 18] = [
-    Spot(0, 0),
-    Spot(1, 33),
-    Spot(2, 67),
-    Spot(3, 68),
-    Spot(4, 76),
-    Spot(5, 0),
-    Spot(6, 1),
-    Spot(7, 4),
-    Spot(8, 10),
-    Spot(9, 12),
-    Spot(10, 18),
-    Spot(11, 44),
-    Spot(12, 45),
-    Spot(13, 0),
-    Spot(1, 2),
-    Spot(2, 36),
-    Spot(3, 37),
-    Spot(4, 45),
+    // 048
+    Spot(0, 0), // MD5
+    Spot(1, 33), // M5N
+    Spot(2, 67), // M4E
+    Spot(3, 68), // RPC
+    Spot(4, 76), // ERR
+    // 021
+    Spot(5, 0), // BPS
+    Spot(6, 1), // SelH
+    Spot(7, 4), // NAV
+    Spot(8, 10), // GAO
+    Spot(9, 12), // SGV
+    Spot(10, 18), // STA
+    Spot(11, 44), // TNH
+    Spot(12, 45), // MES
+    // 007
+    Spot(13, 0), // TA
+    Spot(1, 2), // M5N
+    Spot(2, 36), // M4E
+    Spot(3, 37), // RPC
+    Spot(4, 45), // ERR
 ];
+
+// Its rule and the lookup, likewise.
+fn table_of_spots() -> [Spot; 18]
+    ensures { λ r. ⌜ r ≡ spots ⌝ }
+{
+    SPOTS
+}
+
+fn spot_in(t: [Spot; 18], i: usize, k: usize) -> Spot
+    requires { ⌜ (t ≡ spots) × (i ≡ k) × (i < 18) ⌝ }
+    ensures { λ r. ⌜ r ≡ spotAt k ⌝ }
+{
+    t[i]
+}
+
+fn no_spot(k: usize) -> Spot
+    requires { ⌜ Past 18 k ⌝ }
+    ensures { λ r. ⌜ r ≡ spotAt k ⌝ }
+{
+    Spot(0, 0)
+}
 
 pub fn spot_at(k: usize) -> Spot
     ensures { λ r. ⌜ r ≡ spotAt k ⌝ }
 {
-    if k < 18 {
-        return SPOTS[k];
+    let t = table_of_spots();
+    match k {
+        0 => spot_in(t, 0, k),
+        1 => spot_in(t, 1, k),
+        2 => spot_in(t, 2, k),
+        3 => spot_in(t, 3, k),
+        4 => spot_in(t, 4, k),
+        5 => spot_in(t, 5, k),
+        6 => spot_in(t, 6, k),
+        7 => spot_in(t, 7, k),
+        8 => spot_in(t, 8, k),
+        9 => spot_in(t, 9, k),
+        10 => spot_in(t, 10, k),
+        11 => spot_in(t, 11, k),
+        12 => spot_in(t, 12, k),
+        13 => spot_in(t, 13, k),
+        14 => spot_in(t, 14, k),
+        15 => spot_in(t, 15, k),
+        16 => spot_in(t, 16, k),
+        17 => spot_in(t, 17, k),
+        _ => no_spot(k),
     }
-    Spot(0, 0)
 }
+
+// Behind the items of 048 stand those of 021, and behind these those of 007.
+const SPOTS_021: usize = Cat048::ITEMS;
+
+const SPOTS_007: usize = Cat048::ITEMS + Cat021::ITEMS;
 
 // A category's first spot.
 pub fn spot_of(cat: u8) -> usize
     ensures { λ r. ⌜ r ≡ spotOf cat ⌝ }
 {
     match cat {
-        48 => 0,
-        21 => 5,
-        _ => 13,
+        Cat048::NUMBER => 0,
+        Cat021::NUMBER => SPOTS_021,
+        _ => SPOTS_007,
     }
 }

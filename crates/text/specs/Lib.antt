@@ -2,5 +2,5 @@
 pub mod Typing
 pub mod Decimals
 pub mod Hex
-pub mod Ranges
 pub mod Longest
+pub mod Laws

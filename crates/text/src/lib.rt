@@ -4,7 +4,7 @@
 ghost use mathlib.Core.Path.{_≡_};
 ghost use mathlib.Core.List.{[], _∷_};
 ghost use Prim.Native.Nat.{_+_, _%_, _<_};
-ghost use Rattle.scope.specs.Sheet.{digitsOf, decimal, signedDecimal, line};
+ghost use Rattle.scope.specs.Sheet.{digitsOf, decimal, signedDecimal, keyLine};
 ghost use Rattle.text.specs.Typing.{Types};
 ghost use Rattle.text.specs.Hex.{capital, pairText, hexText};
 
@@ -115,7 +115,7 @@ pub fn line_end(at: usize, buf: &mut [u8; 4096]) -> usize
 
 // A line with a key and a number.
 pub fn pair(key: &[u8], n: u64, at: usize, buf: &mut [u8; 4096]) -> usize
-    ensures { λ r. ⌜ Types (line (now (key .entry)) (decimal n)) (now (buf .entry)) at (now (buf .exit)) r ⌝ }
+    ensures { λ r. ⌜ Types (keyLine (now (key .entry)) (decimal n)) (now (buf .entry)) at (now (buf .exit)) r ⌝ }
 {
     let sign = word(key, at, &mut *buf);
     let value = octet(b'=', sign, &mut *buf);
@@ -125,7 +125,7 @@ pub fn pair(key: &[u8], n: u64, at: usize, buf: &mut [u8; 4096]) -> usize
 
 // A line with a key and a number that may be below 0.
 pub fn signed_pair(key: &[u8], z: i64, at: usize, buf: &mut [u8; 4096]) -> usize
-    ensures { λ r. ⌜ Types (line (now (key .entry)) (signedDecimal z)) (now (buf .entry)) at (now (buf .exit)) r ⌝ }
+    ensures { λ r. ⌜ Types (keyLine (now (key .entry)) (signedDecimal z)) (now (buf .entry)) at (now (buf .exit)) r ⌝ }
 {
     let sign = word(key, at, &mut *buf);
     let value = octet(b'=', sign, &mut *buf);

@@ -3,40 +3,32 @@
 ghost use mathlib.Core.Path.{_≡_};
 ghost use Prim.Native.Nat.{ℕ, _+_, _-_, _≤_, _<_};
 ghost use lib.ListN.{length};
+ghost use denote.Ref.{ptr};
 ghost use Rattle.layout.specs.declared.View.the-variants.{Shown};
 ghost use Rattle.scope.specs.Views.{viewOf, partOf, chooseOf, chosenOf};
 ghost use Rattle.views.specs.Standing.{Rising, standsAt, asView};
 ghost use Rattle.views.specs.Choosing.{chosenView};
+ghost use Rattle.views.specs.Parts.{partAt, chosenAt};
 use layout::Answer;
 use layout::Choice;
 use layout::View;
 use layout::Which;
-
-fn wide(b: u8) -> usize
-    ensures { λ r. ⌜ (r ≡ b) × (r < 256) ⌝ }
-{
-    b as usize
-}
 
 // Where an item of a category stands in an accepted field, by its indicator and where each item begins.
 fn standing(cat: u8, items: u8, starts: [usize; 9], item: u8) -> View
     requires { ⌜ Rising cat starts ⌝ }
     ensures { λ r. ⌜ r ≡ standsAt cat items starts item ⌝ }
 {
-    let i = wide(item);
-    let n = layout::items_of(cat);
-    if i == 0 {
-        return View::Hidden(12, 0);
+    if layout::is_item(cat, item) {
+        let i = leaves::wide(item);
+        if layout::present(items, i - 1) {
+            let from = starts[i - 1];
+            let to = starts[i];
+            return View::Shown(from, to - from);
+        }
+        return View::Hidden(15, 0);
     }
-    if n < i {
-        return View::Hidden(12, 0);
-    }
-    if layout::present(items, i - 1) {
-        let from = starts[i - 1];
-        let to = starts[i];
-        return View::Shown(from, to - from);
-    }
-    View::Hidden(15, 0)
+    View::Hidden(12, 0)
 }
 
 // A field as a view of itself: all of it, or its refusal unchanged.
@@ -65,7 +57,7 @@ pub fn view_answer(cat: u8, field: &[u8], item: u8) -> View
 // The part of a field that a view shows.
 fn part<'a>(field: &'a [u8], v: View) -> &'a [u8]
     requires { ⌜ ((a m : ℕ) → v ≡ Shown a m → a + m ≤ length (now field)) ⌝ }
-    ensures { λ r. ⌜ now r ≡ partOf (now (field .entry)) v ⌝ }
+    ensures { λ r. ⌜ (now r ≡ partOf (now (field .entry)) v) × (ptr r ≡ partAt (ptr (field .entry)) v) ⌝ }
 {
     let View::Shown(from, n) = v else {
         return &field[..0];
@@ -76,6 +68,7 @@ fn part<'a>(field: &'a [u8], v: View) -> &'a [u8]
 // The item's part of the field; the empty part where nothing can be shown.
 pub fn view<'a>(cat: u8, field: &'a [u8], item: u8) -> &'a [u8]
     ensures { λ r. ⌜ now r ≡ partOf (now (field .entry)) (viewOf cat (now (field .entry)) item) ⌝ }
+    ensures { λ r. ⌜ ptr r ≡ partAt (ptr (field .entry)) (viewOf cat (now (field .entry)) item) ⌝ }
 {
     let v = view_answer(cat, field, item);
     part(field, v)
@@ -139,6 +132,7 @@ pub fn choose_answer(cat: u8, base: &[u8], correction: &[u8], item: u8) -> Choic
 // The item's part of the correction where it is there, else of the base; the empty part where nothing can be shown.
 pub fn choose<'a>(cat: u8, base: &'a [u8], correction: &'a [u8], item: u8) -> &'a [u8]
     ensures { λ r. ⌜ now r ≡ chosenOf (now (base .entry)) (now (correction .entry)) (chooseOf cat (now (base .entry)) (now (correction .entry)) item) ⌝ }
+    ensures { λ r. ⌜ ptr r ≡ chosenAt (ptr (base .entry)) (ptr (correction .entry)) (chooseOf cat (now (base .entry)) (now (correction .entry)) item) ⌝ }
 {
     let c = choose_answer(cat, base, correction, item);
     let v = c.view;

@@ -2,4 +2,4 @@
 pub mod Lines
 pub mod Numbers
 pub mod Octets
-pub mod Written
+pub mod Laws

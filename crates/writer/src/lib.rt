@@ -3,7 +3,7 @@
 // Stands on tables, by which it lays the octets, and on reader's promise: a record is right exactly if what is laid of it reads back to it.
 ghost use mathlib.Core.Path.{_≡_};
 ghost use mathlib.Core.Bool.{true};
-ghost use mathlib.Core.List.{List, _++_};
+ghost use mathlib.Core.List.{List};
 ghost use Prim.Native.Nat.{_+_, _%_, _≤_};
 ghost use lib.Dec.{T, ltb};
 ghost use lib.IntN.{ℤ};
@@ -16,19 +16,22 @@ ghost use Rattle.layout.specs.Papers.{known};
 ghost use Rattle.layout.specs.Laws.Slots.{Holds};
 ghost use Rattle.tables.specs.Lines.{lineAt, firstAt, countAt, itemAt};
 ghost use Rattle.tables.specs.Shapes.{linesFrom, flagsUnder, inTurn, spotOk, rowOk, itemsFrom, numbersOn, heldFrom};
-ghost use Rattle.scope.specs.Writing.{withRoom};
-ghost use Rattle.promises.specs.Outputs.{Leaves};
-ghost use Rattle.promises.specs.RoundTrips.{Wrote};
+ghost use Rattle.scope.specs.Outputs.{withRoom, Leaves};
+ghost use Rattle.scope.specs.Writing.{Wrote};
 ghost use Rattle.writer.specs.Laying.{Lays};
 ghost use Rattle.writer.specs.Chains.{goesOn};
 ghost use Rattle.writer.specs.Rows.{placeOn};
 ghost use Rattle.writer.specs.Same.{Tells};
 ghost use Rattle.writer.specs.Checked.{Checked, ReadBack};
 ghost use Rattle.writer.specs.Frames.{made, Laid};
+ghost use Rattle.layout.specs.Papers.{LONGEST};
 
 mod lines;
 
 use layout::Answer;
+use layout::Field;
+use layout::LONGEST;
+use layout::Numbers;
 use layout::Record;
 
 // Whether a further part of a chain follows: some are defined, and the count of parts says so.
@@ -43,15 +46,15 @@ fn goes_on(count: u8, left: usize) -> bool
 
 // The chain of so many parts whose first is line b, with left further parts defined.
 fn chain(
-    numbers: &[i32; 77],
+    numbers: &Numbers,
     count: u8,
     b: usize,
     left: usize,
     base: usize,
     at: usize,
-    octets: &mut [u8; 52],
+    octets: &mut Field,
 ) -> usize
-    requires { ⌜ (b + left ≤ 100) × (base ≤ 255) × T (inTurn b (left + 1)) ⌝ }
+    requires { ⌜ (b + left ≤ 300) × (base ≤ 255) × T (inTurn b (left + 1)) ⌝ }
     ensures { λ r. ⌜ ((zs : List ℤ) → Holds (now (numbers .entry)) (base + firstAt b) zs → Lays (chain (lineAt b) (linesFrom (b + 1) left)) (count, zs) (now (octets .entry)) at (now (octets .exit)) r) ⌝ }
 {
     if goes_on(count, left) {
@@ -70,12 +73,12 @@ fn chain(
 }
 
 // Subfield b, if the chain says that it is there.
-fn subfield(numbers: &[i32; 77], b: usize, base: usize, at: usize, octets: &mut [u8; 52]) -> usize
+fn subfield(numbers: &Numbers, b: usize, base: usize, at: usize, octets: &mut Field) -> usize
     requires { ⌜ base ≤ 255 ⌝ }
     ensures { λ r. ⌜ ((zs us : List ℤ) → Holds (now (numbers .entry)) base zs → T (ltb (lineAt b .flag) (length zs)) → Holds (now (numbers .entry)) (base + firstAt b) us → Lays (opt (nothing (countAt b)) (flagged zs (lineAt b)) (line (lineAt b))) (0, us) (now (octets .entry)) at (now (octets .exit)) r) ⌝ }
 {
-    let row = tables::row_of(b);
-    let z = layout::number_at(numbers, base + row.6);
+    let format = tables::format_of(b);
+    let z = layout::number_at(numbers, base + format.flag);
     if layout::is_one(z) {
         return lines::line(numbers, b, base, 0, at, &mut *octets);
     }
@@ -84,14 +87,14 @@ fn subfield(numbers: &[i32; 77], b: usize, base: usize, at: usize, octets: &mut 
 
 // The left subfields from line b on.
 fn subfields(
-    numbers: &[i32; 77],
+    numbers: &Numbers,
     b: usize,
     left: usize,
     base: usize,
     at: usize,
-    octets: &mut [u8; 52],
+    octets: &mut Field,
 ) -> usize
-    requires { ⌜ (b + left ≤ 100) × (base ≤ 255) × T (inTurn b left) ⌝ }
+    requires { ⌜ (b + left ≤ 300) × (base ≤ 255) × T (inTurn b left) ⌝ }
     ensures { λ r. ⌜ ((zs us : List ℤ) → Holds (now (numbers .entry)) base zs → T (flagsUnder (length zs) (linesFrom b left)) → ((left ≡ 0 → ⊥) → Holds (now (numbers .entry)) (base + firstAt b) us) → Lays (subfields zs (linesFrom b left)) (0, us) (now (octets .entry)) at (now (octets .exit)) r) ⌝ }
 {
     if left == 0 {
@@ -102,14 +105,7 @@ fn subfields(
 }
 
 // One item of those that some paper has, with so many parts of its chain.
-fn item(
-    numbers: &[i32; 77],
-    count: u8,
-    k: usize,
-    base: usize,
-    at: usize,
-    octets: &mut [u8; 52],
-) -> usize
+fn item(numbers: &Numbers, count: u8, k: usize, base: usize, at: usize, octets: &mut Field) -> usize
     requires { ⌜ base ≤ 255 ⌝ }
     ensures { λ r. ⌜ ((zs : List ℤ) → Holds (now (numbers .entry)) base zs → Lays (item (itemAt k)) (count, zs) (now (octets .entry)) at (now (octets .exit)) r) ⌝ }
 {
@@ -123,27 +119,28 @@ fn item(
     subfields(numbers, b + parts, shape.2, base, next, &mut *octets)
 }
 
-fn wide(o: u8) -> usize
-    ensures { λ r. ⌜ (r ≡ o) × (r ≤ 255) ⌝ }
-{
-    o as usize
-}
-
 // The item at a spot, if it is there.
 fn place(
     there: bool,
     count: u8,
-    numbers: &[i32; 77],
+    numbers: &Numbers,
     k: usize,
     at: usize,
-    octets: &mut [u8; 52],
+    octets: &mut Field,
 ) -> usize
     requires { ⌜ T (spotOk k) ⌝ }
     ensures { λ r. ⌜ Lays (placeOn k there) (count, numbersOn k (now (numbers .entry))) (now (octets .entry)) at (now (octets .exit)) r ⌝ }
 {
     if there {
         let spot = tables::spot_at(k);
-        return item(numbers, count, wide(spot.0), wide(spot.1), at, &mut *octets);
+        return item(
+            numbers,
+            count,
+            leaves::wide(spot.0),
+            leaves::wide(spot.1),
+            at,
+            &mut *octets,
+        );
     }
     at
 }
@@ -152,12 +149,12 @@ fn place(
 fn row(
     items: u8,
     parts: &[u8; 8],
-    numbers: &[i32; 77],
+    numbers: &Numbers,
     k: usize,
     i: usize,
     left: usize,
     at: usize,
-    octets: &mut [u8; 52],
+    octets: &mut Field,
 ) -> usize
     requires { ⌜ (k + left ≤ 200) × (i + left ≤ 8) × T (rowOk k left) ⌝ }
     ensures { λ r. ⌜ Lays (row (drop i (flags items)) (itemsFrom k left)) (heldFrom k left i (now (parts .entry)) (now (numbers .entry))) (now (octets .entry)) at (now (octets .exit)) r ⌝ }
@@ -179,42 +176,20 @@ fn row(
     )
 }
 
-// The lowest octet of a number.
-fn octet(n: usize) -> u8
-    ensures { λ r. ⌜ r ≡ n % 256 ⌝ }
-{
-    (n % 256) as u8
-}
-
 // The field of a record in front of the octets, if some field reads to it.
-fn lay(cat: u8, items: u8, parts: &[u8; 8], numbers: &[i32; 77], octets: &mut [u8; 52])
-    requires { ⌜ (known cat ≡ true) × (length (now octets) ≡ 52) ⌝ }
+fn lay(cat: u8, items: u8, parts: &[u8; 8], numbers: &Numbers, octets: &mut Field)
+    requires { ⌜ (known cat ≡ true) × (length (now octets) ≡ LONGEST) ⌝ }
     ensures { λ _. ⌜ Laid (made cat items (now (parts .entry)) (now (numbers .entry))) (now (octets .entry)) (now (octets .exit)) ⌝ }
 {
     let first = tables::spot_of(cat);
     let n = layout::items_of(cat);
     octets[1] = items;
     let end = row(items, parts, numbers, first, 0, n, 2, &mut *octets);
-    octets[0] = octet(end);
+    octets[0] = leaves::octet(end);
 }
 
 // Two arrays are the same if all their elements are; as slices they tell how many there are.
-fn same_parts(a: &[u8; 8], b: &[u8; 8]) -> bool
-    ensures { λ r. ⌜ Tells r (now (a .entry)) (now (b .entry)) ⌝ }
-{
-    let p = &a[..];
-    let q = &b[..];
-    let mut i: usize = 0;
-    while i < p.len() {
-        if p[i] != q[i] {
-            return false;
-        }
-        i += 1;
-    }
-    true
-}
-
-fn same_numbers(a: &[i32; 77], b: &[i32; 77]) -> bool
+fn same_numbers(a: &Numbers, b: &Numbers) -> bool
     ensures { λ r. ⌜ Tells r (now (a .entry)) (now (b .entry)) ⌝ }
 {
     let p = &a[..];
@@ -237,7 +212,7 @@ fn same(a: Record, b: Record) -> bool
         if a.items == b.items {
             let p = a.parts;
             let q = b.parts;
-            if same_parts(&p, &q) {
+            if check::same(&p[..], &q[..]) {
                 let m = a.numbers;
                 let n = b.numbers;
                 return same_numbers(&m, &n);
@@ -261,8 +236,8 @@ fn reads_back(kept: Record, octets: &[u8]) -> Answer
 }
 
 // The length of a record's field, which then stands in front of the octets; or 10.
-fn checked(kept: Record, octets: &mut [u8; 52]) -> Answer
-    requires { ⌜ (known (kept .cat) ≡ true) × (length (now octets) ≡ 52) ⌝ }
+fn checked(kept: Record, octets: &mut Field) -> Answer
+    requires { ⌜ (known (kept .cat) ≡ true) × (length (now octets) ≡ LONGEST) ⌝ }
     ensures { λ r. ⌜ Checked kept r (now (octets .exit)) ⌝ }
 {
     let parts = kept.parts;
@@ -271,25 +246,12 @@ fn checked(kept: Record, octets: &mut [u8; 52]) -> Answer
     reads_back(kept, &octets[..])
 }
 
-// Octets into the front of an output that has room for them.
-fn copy(octets: &[u8], out: &mut [u8])
-    requires { ⌜ length (now octets) ≤ length (now out) ⌝ }
-    ensures { λ _. ⌜ now (out .exit) ≡ now (octets .entry) ++ drop (length (now (octets .entry))) (now (out .entry)) ⌝ }
-{
-    let mut i: usize = 0;
-    while i < octets.len() {
-        out[i] = octets[i];
-        i += 1;
-    }
-}
-
 // Octets into the front of an output, or 11: the last step of every operation that writes a field.
 pub fn deliver(octets: &[u8], out: &mut [u8]) -> Answer
     ensures { λ r. ⌜ Leaves (withRoom (length (now (out .entry))) (now (octets .entry))) (now (out .entry)) r (now (out .exit)) ⌝ }
 {
     if octets.len() <= out.len() {
-        copy(octets, &mut *out);
-        return Answer::Accepted(octets.len());
+        return Answer::Accepted(bytes::copy(octets, &mut *out));
     }
     Answer::Refused(11, 0)
 }
@@ -299,7 +261,7 @@ pub fn write(kept: Record, out: &mut [u8]) -> Answer
     ensures { λ r. ⌜ Wrote kept (now (out .entry)) r (now (out .exit)) ⌝ }
 {
     if layout::is_known(kept.cat) {
-        let mut octets = [0u8; 52];
+        let mut octets = [0u8; LONGEST];
         let a = checked(kept, &mut octets);
         let Answer::Accepted(n) = a else {
             return a;

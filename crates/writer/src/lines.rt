@@ -1,4 +1,4 @@
-// One line of the papers, a chain part or a subfield, laid by its row of the table from the slots of the record.
+// One line of the papers, a chain part or a subfield, laid by its format of the table from the slots of the record.
 // Promises: `line` puts the octets that the codec of the line writes, if the numbers fit it and there is room. Stands on tables.
 ghost use mathlib.Core.Path.{_≡_};
 ghost use mathlib.Core.List.{List};
@@ -12,6 +12,10 @@ ghost use Rattle.tables.specs.Lines.{lineAt, firstAt, piecesFrom};
 ghost use Rattle.layout.specs.Laws.Slots.{Holds};
 ghost use Rattle.writer.specs.Digits.{lowBits, gathered};
 ghost use Rattle.writer.specs.Laying.{Lays};
+ghost use Rattle.layout.specs.Papers.{LONGEST};
+use layout::Field;
+use layout::LONGEST;
+use layout::Numbers;
 
 fn power(w: u64) -> u64
     requires { ⌜ w < 64 ⌝ }
@@ -33,7 +37,7 @@ fn digit(z: i32, w: u64) -> u64
 }
 
 // The pieces of a code as one number of so many bits, their numbers from a slot on.
-fn gather(numbers: &[i32; 77], bits: u64, code: u64, left: usize, slot: usize) -> u64
+fn gather(numbers: &Numbers, bits: u64, code: u64, left: usize, slot: usize) -> u64
     requires { ⌜ (bits ≡ total (widths (piecesFrom left code))) × (bits ≤ 48) × (slot + left ≤ 1000) ⌝ }
     ensures { λ r. ⌜ r ≡ gathered (piecesFrom left code) (now (numbers .entry)) slot ⌝ }
 {
@@ -50,53 +54,52 @@ fn gather(numbers: &[i32; 77], bits: u64, code: u64, left: usize, slot: usize) -
     d * power(next) + low
 }
 
-fn octet(n: u64) -> u8
-    requires { ⌜ n < 256 ⌝ }
-    ensures { λ r. ⌜ r ≡ n ⌝ }
-{
-    n as u8
-}
-
-fn put(octets: &mut [u8; 52], at: usize, o: u8)
-    requires { ⌜ at < 52 ⌝ }
+fn put(octets: &mut Field, at: usize, o: u8)
+    requires { ⌜ at < LONGEST ⌝ }
     ensures { λ _. ⌜ now (octets .exit) ≡ set (now (octets .entry)) at o ⌝ }
 {
     octets[at] = o;
 }
 
 // A number in k octets, high octet first.
-fn spill(n: u64, k: usize, at: usize, octets: &mut [u8; 52])
-    requires { ⌜ (at + k ≤ 52) × (k ≤ 6) × (n < 2 ^ (8 * k)) ⌝ }
+fn spill(n: u64, k: usize, at: usize, octets: &mut Field)
+    requires { ⌜ (at + k ≤ LONGEST) × (k ≤ 6) × (n < 2 ^ (8 * k)) ⌝ }
     ensures { λ _. ⌜ now (octets .exit) ≡ sets (now (octets .entry)) at (cut (eights k) n) ⌝ }
 {
     if k == 0 {
         return;
     }
     let full = power(8 * (k - 1) as u64);
-    put(&mut *octets, at, octet(n / full));
+    put(&mut *octets, at, leaves::octet64(n / full));
     spill(n % full, k - 1, at + 1, &mut *octets);
 }
 
 // Line b with its bits below the pieces (FX); the slots of its item begin at base. The place behind it, or the same where there is no room.
 pub fn line(
-    numbers: &[i32; 77],
+    numbers: &Numbers,
     b: usize,
     base: usize,
     fx: u8,
     at: usize,
-    octets: &mut [u8; 52],
+    octets: &mut Field,
 ) -> usize
     requires { ⌜ base ≤ 255 ⌝ }
     ensures { λ r. ⌜ ((zs : List ℤ) → Holds (now (numbers .entry)) (base + firstAt b) zs → Lays (line (lineAt b)) (fx, zs) (now (octets .entry)) at (now (octets .exit)) r) ⌝ }
 {
-    let row = tables::row_of(b);
-    let k = row.0;
-    if 52 - k < at {
+    let format = tables::format_of(b);
+    let k = format.octets;
+    if LONGEST - k < at {
         return at;
     }
-    let bits = 8 * k as u64 - row.4;
-    let n = gather(numbers, bits, row.2, row.3, base + row.5);
-    let full = power(row.4);
+    let bits = 8 * k as u64 - format.below;
+    let n = gather(
+        numbers,
+        bits,
+        format.pieces,
+        format.runs,
+        base + format.first,
+    );
+    let full = power(format.below);
     spill(n * full + (fx as u64) % full, k, at, &mut *octets);
     at + k
 }

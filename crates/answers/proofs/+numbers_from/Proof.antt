@@ -1,10 +1,10 @@
 -- `answers::numbers_from` meets its contract: one law at each way out. Assumes nothing.
-use mathlib.Core.Path.{_≡_, refl, sym, ap, _∙_}
-use mathlib.Core.Bool.{Bool, true, false, not}
+use mathlib.Core.Path.{_≡_, ap, _∙_}
+use mathlib.Core.Bool.{false}
 use native.Mathlib.Omega.{arith}
 use denote.Ref.{now}
 use borrow.Author.Needs.{sfits-of}
-use lib.IntN.{ℤ, pos}
+use lib.IntN.{pos}
 use lib.Signed.{ltZ}
 use mir.Syntax.{w32, w64}
 use mir.Val.{SFits}
@@ -15,6 +15,7 @@ use Rattle.answers.specs.Forms.{takes-none, takes-bad, takes-more, past-
 use Prim.Native.Nat.{ℕ, _-_, _<_}
 use borrow.Fn.Kinds.{In}
 use borrow.Fn.PlainCycle.{Measures, is, falls, and}
+use Rattle.layout.specs.Record.{SLOTS}
 use Rattle.answers.proofs.numbers_from.Reads as numbers-from
 use Rattle.answers.proofs.numbers_from.Kinds as numbers-from-kinds
 use Rattle.answers.proofs.+numbers_from.Lts-numbers_from as numbers-from-lts
@@ -26,7 +27,7 @@ use Rattle.answers.proofs.+numbers_from.{statement}
 use Rattle.answers.proofs.+numbers_from.Tie.{close}
 
 abbrev μ-numbers-from : Measures 2 numbers-from-kinds.ps ℕ
-μ-numbers-from κs a = 77 - a .1 .0
+μ-numbers-from κs a = SLOTS - a .1 .0
 
 abbrev numbers-from-at : ℕ → In 2 numbers-from-kinds.ps
 numbers-from-at t =
@@ -47,7 +48,7 @@ calls t = (first-reads.Asked, first-reads.Learnt, signed-reads.Asked, signed-rea
 numbers-from-returns : (t : ℕ) → numbers-from-lts.Need-returns (calls t) (numbers-from-at t) numbers-from.Post
 numbers-from-returns t c =
     let a = c .before .before .args in
-    takes-none isSigned signedValue 77 (now (a .rest)) (a .i) (now (a .numbers)) (c .if1 .taken)
+    takes-none isSigned signedValue SLOTS (now (a .rest)) (a .i) (now (a .numbers)) (c .if1 .taken)
 
 numbers-from-first-requires : (t : ℕ) → numbers-from-lts.Need-first-requires (calls t) (numbers-from-at t) numbers-from.Post
 numbers-from-first-requires t c κs = tt
@@ -73,7 +74,7 @@ numbers-from-returns-2 t c =
     let n = c .before in
     let i = n .before .before in
     let a = i .before .before .args in
-    takes-bad isSigned signedValue 77 (now (a .rest)) (a .i) (now (a .numbers)) (omega arith)
+    takes-bad isSigned signedValue SLOTS (now (a .rest)) (a .i) (now (a .numbers)) (omega arith)
     (past-signed (firstWord (now (a .rest))) (taken t n) (rw (toZ-ofZ (wide t n)) at (c .if2 .taken)))
 
 numbers-from-cast-put-number : (t : ℕ) → numbers-from-lts.Need-cast-put-number (calls t) (numbers-from-at t) numbers-from.Post
@@ -100,7 +101,7 @@ numbers-from-returns-3 t c =
     let i = n .before .before in
     let a = i .before .before .args in
     let w = firstWord (now (a .rest)) in
-    takes-more isSigned signedValue 77 (now (a .rest)) (a .i) (now (a .numbers)) (omega arith) (signed-form w (taken t n) (kept t j)) (signed-taken w (taken t n) (kept t j)) (b .behind .ensures)
+    takes-more isSigned signedValue SLOTS (now (a .rest)) (a .i) (now (a .numbers)) (omega arith) (signed-form w (taken t n) (kept t j)) (signed-taken w (taken t n) (kept t j)) (b .behind .ensures)
     (rw (toZ-ofZ (wide t n), toZ-ofZ (narrow t j)) at (p .put-number .ensures))
     (c .numbers-from .ensures)
 

@@ -1,5 +1,5 @@
 -- `answers::next` meets its contract: the word stands behind its space. Assumes nothing.
-use Rattle.text.specs.Typing.{types-behind}
+use Rattle.text.specs.Laws.Typing.{types-behind}
 use Rattle.answers.specs.Texts.{next}
 use Rattle.answers.proofs.next.Statement.{statement}
 use Rattle.answers.proofs.next.Tie as tie

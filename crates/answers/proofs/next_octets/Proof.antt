@@ -1,5 +1,5 @@
 -- `answers::next_octets` meets its contract: the word stands behind its space. Assumes nothing.
-use Rattle.text.specs.Typing.{types-behind}
+use Rattle.text.specs.Laws.Typing.{types-behind}
 use Rattle.answers.specs.Texts.{nextOctets}
 use Rattle.answers.proofs.next_octets.Statement.{statement}
 use Rattle.answers.proofs.next_octets.Tie as tie

@@ -1,6 +1,6 @@
 -- `answers::next_signed` meets its contract: the word stands behind its space. Assumes nothing.
 use mir.Facts.{toZ-ofZ}
-use Rattle.text.specs.Typing.{types-behind}
+use Rattle.text.specs.Laws.Typing.{types-behind}
 use Rattle.answers.specs.Texts.{nextSigned}
 use Rattle.answers.proofs.next_signed.Statement.{statement}
 use Rattle.answers.proofs.next_signed.Tie as tie

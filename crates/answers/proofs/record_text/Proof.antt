@@ -4,8 +4,9 @@ use native.Mathlib.Omega.{arith}
 use borrow.Author.Needs.{needs}
 use lib.ListN.{take}
 use lib.Seq.{take-all}
-use Rattle.text.specs.Typing.{types-behind}
+use Rattle.text.specs.Laws.Typing.{types-behind}
 use Rattle.answers.specs.Texts.{recordText}
+use Rattle.layout.specs.Record.{SLOTS}
 use Rattle.answers.proofs.record_text.Statement.{statement}
 use Rattle.answers.proofs.record_text.Tie as tie
 
@@ -25,7 +26,7 @@ returns c =
     let m = n .before .before .before in
     let f = m .before .before .before .before .before .args .kept in
     let p : take 8 (f .parts) ≡ f .parts = take-all 8 (f .parts) (omega (arith, slice-aggregate-octet-words j)) in
-    let q : take 77 (f .numbers) ≡ f .numbers = take-all 77 (f .numbers) (omega (arith, slice-aggregate-number-words k)) in
+    let q : take SLOTS (f .numbers) ≡ f .numbers = take-all SLOTS (f .numbers) (omega (arith, slice-aggregate-number-words k)) in
     rw (p, q) (types-behind (m .next .ensures) (types-behind (n .next2 .ensures) (types-behind (o .octet-words .ensures) (c .number-words .ensures))))
 
 pub record-text-spec : {M : Type 1} → statement M

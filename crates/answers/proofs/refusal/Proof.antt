@@ -1,6 +1,6 @@
 -- `answers::refusal` meets its contract: the words stand one behind the other. Assumes nothing.
 use borrow.Author.Needs.{needs}
-use Rattle.text.specs.Typing.{types-behind}
+use Rattle.text.specs.Laws.Typing.{types-behind}
 use Rattle.answers.specs.Texts.{refusalText}
 use Rattle.answers.proofs.refusal.Statement.{statement}
 use Rattle.answers.proofs.refusal.Tie as tie

@@ -1,6 +1,5 @@
 -- `answers::removed` meets its contract: what the operation left is its outcome. Assumes nothing.
 use borrow.Author.Needs.{needs}
-use denote.Ref.{now}
 use Rattle.answers.specs.Typed.{types-left}
 use Rattle.answers.proofs.removed.Statement.{statement}
 use Rattle.answers.proofs.removed.Tie as tie

@@ -1,5 +1,5 @@
 -- `answers::shown` meets its contract: the words stand one behind the other. Assumes nothing.
-use Rattle.text.specs.Typing.{types-behind}
+use Rattle.text.specs.Laws.Typing.{types-behind}
 use Rattle.answers.specs.Texts.{shownText}
 use Rattle.answers.proofs.shown.Statement.{statement}
 use Rattle.answers.proofs.shown.Tie as tie

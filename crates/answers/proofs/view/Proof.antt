@@ -1,14 +1,12 @@
 -- `answers::view` meets its contract: the form of the request, and the view of its item. Assumes nothing.
 use mathlib.Core.Path.{_≡_, sym, ap, _∙_}
-use mathlib.Core.Bool.{Bool, true, false, _&&_}
+use mathlib.Core.Bool.{true, _&&_}
 use native.Mathlib.Omega.{arith}
-use borrow.Author.Needs.{needs}
 use borrow.Author.Tests.{ltb-true}
 use denote.Ref.{now}
 use lib.Dec.{ltb}
-use lib.ListN.{take}
 use Rattle.answers.specs.Protocol.{word}
-use Rattle.answers.specs.Forms.{here, rest, octets-taken, octets-counted, octets-held, room-counted, not-view, is-view}
+use Rattle.answers.specs.Forms.{here, rest, octets-taken, octets-counted, octets-held, not-view, is-view}
 use Rattle.answers.proofs.view.Statement.{statement}
 use Rattle.answers.proofs.view.Tie as tie
 

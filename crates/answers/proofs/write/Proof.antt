@@ -1,6 +1,6 @@
 -- `answers::write` meets its contract: the form of the request, and the writing of its record. Assumes nothing.
 use mathlib.Core.Path.{_≡_, refl, sym, ap, _∙_}
-use mathlib.Core.Bool.{Bool, true, false, _&&_}
+use mathlib.Core.Bool.{true, _&&_}
 use native.Mathlib.Omega.{arith}
 use borrow.Author.Tests.{ltb-true}
 use denote.Ref.{now}
@@ -11,6 +11,7 @@ use Rattle.words.specs.Lines.{restAfter}
 use Rattle.words.specs.Numbers.{isSigned, signedValue}
 use Rattle.answers.specs.Protocol.{isOctet, endsAfter, areAll, valuesOf}
 use Rattle.answers.specs.Forms.{here, rest, room-counted, takes-all, not-write, is-write}
+use Rattle.layout.specs.Record.{SLOTS}
 use Rattle.answers.proofs.write.Statement.{statement}
 use Rattle.answers.proofs.write.Tie as tie
 
@@ -60,13 +61,13 @@ returns c =
     (i .before .before .before .before .before .before .before .before .before .before .before .before .before .before .number-at2 .ensures)
     (i .before .before .before .before .before .before .before .before .before .before .before .before .before .number-at3 .ensures)
     (i .before .before .before .before .before .before .before .before .before .before .parts-from .ensures .form ∙ ap (areAll isOctet 8) (chains (i .before)))
-    (i .before .before .before .before .before .before .before .numbers-from .ensures .form ∙ ap (areAll isSigned 77) (slots (i .before)))
-    (i .before .before .before .before .before .before .ends-after .ensures ∙ ap (endsAfter 77) (slots (i .before)))
+    (i .before .before .before .before .before .before .before .numbers-from .ensures .form ∙ ap (areAll isSigned SLOTS) (slots (i .before)))
+    (i .before .before .before .before .before .before .ends-after .ensures ∙ ap (endsAfter SLOTS) (slots (i .before)))
     (tests (i .before) ∙ i .if1 .taken)
     refl
     refl
     (takes-all isOctet valueOf 8 (now (i .before .before .before .before .before .before .before .before .before .before .before .before .behind-all .result)) (i .before .before .before .before .before .before .before .before .before .before .before .before .before .before .before .before .before .before .no-parts .result) (i .before .before .before .before .before .before .before .before .before .before .parts-from .ensures) (parts-test i) (i .before .before .before .before .before .before .before .before .before .before .before .before .before .before .before .before .before .before .no-parts .ensures) ∙ ap (valuesOf valueOf 8) (chains (i .before)))
-    (takes-all isSigned signedValue 77 (now (i .before .before .before .before .before .before .before .before .before .behind-all2 .result)) (i .before .before .before .before .before .before .before .before .before .before .before .before .before .before .before .before .before .no-numbers .result) (i .before .before .before .before .before .before .before .numbers-from .ensures) (numbers-test i) (i .before .before .before .before .before .before .before .before .before .before .before .before .before .before .before .before .before .no-numbers .ensures) ∙ ap (valuesOf signedValue 77) (slots (i .before)))
+    (takes-all isSigned signedValue SLOTS (now (i .before .before .before .before .before .before .before .before .before .behind-all2 .result)) (i .before .before .before .before .before .before .before .before .before .before .before .before .before .before .before .before .before .no-numbers .result) (i .before .before .before .before .before .before .before .numbers-from .ensures) (numbers-test i) (i .before .before .before .before .before .before .before .before .before .before .before .before .before .before .before .before .before .no-numbers .ensures) ∙ ap (valuesOf signedValue SLOTS) (slots (i .before)))
     (take (i .before .before .before .before .before .before .before .before .before .before .before .before .before .before .before .number-at .result) (i .before .before .before .before .before .before .before .before .before .before .before .before .before .before .before .before .blank .result))
     (room-counted (i .before .before .before .before .before .before .before .before .before .before .before .before .before .before .before .number-at .result) (room-test i) (i .before .before .before .before .before .before .before .before .before .before .before .before .before .before .before .before .blank .result) (i .before .before .before .before .before .before .before .before .before .before .before .before .before .before .before .before .blank .ensures))
     (c .before .written .ensures)
@@ -79,8 +80,8 @@ returns-2 c =
     (i .before .before .before .before .before .before .before .before .before .before .before .before .before .before .number-at2 .ensures)
     (i .before .before .before .before .before .before .before .before .before .before .before .before .before .number-at3 .ensures)
     (i .before .before .before .before .before .before .before .before .before .before .parts-from .ensures .form ∙ ap (areAll isOctet 8) (chains (i .before)))
-    (i .before .before .before .before .before .before .before .numbers-from .ensures .form ∙ ap (areAll isSigned 77) (slots (i .before)))
-    (i .before .before .before .before .before .before .ends-after .ensures ∙ ap (endsAfter 77) (slots (i .before)))
+    (i .before .before .before .before .before .before .before .numbers-from .ensures .form ∙ ap (areAll isSigned SLOTS) (slots (i .before)))
+    (i .before .before .before .before .before .before .ends-after .ensures ∙ ap (endsAfter SLOTS) (slots (i .before)))
     (tests (i .before) ∙ i .if1 .left)
     (c .bad-request .ensures)
 

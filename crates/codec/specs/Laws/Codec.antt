@@ -1,10 +1,10 @@
 -- Each way of putting codecs together keeps the two round trips.
 use mathlib.Core.Path.{_≡_, refl, sym, ap, ap₂, _∙_, subst, subst₂}
-use mathlib.Core.Bool.{Bool, true, false, _&&_}
+use mathlib.Core.Bool.{Bool, true, false}
 use mathlib.Core.List.{List, [], _∷_, _++_, append-assoc}
 use Prim.Native.Nat.{ℕ, zero, suc, _+_, _-_, _^_, _≤_, _<_}
 use native.Mathlib.Omega.{arith}
-use lib.ListN.{length, take, drop, length-append, length-drop, take-append-drop}
+use lib.ListN.{length, getD, take, drop, length-append, length-drop, take-append-drop}
 use lib.Seq.{take-add, take-at, drop-append-seam, length-take-le}
 use lib.Dec.{T, ltb, leb, ltb→lt, lt→ltb, leb→le, le→leb}
 use borrow.Author.Tests.{le-leb}
@@ -21,11 +21,11 @@ pub octets-++ : (xs ys : List ℕ) → Octets xs → Octets ys → Octets (xs ++
 octets-++ [] ys p q = q
 octets-++ (x ∷ xs) ys p q = and-in (ltb x 256) (areBytes (xs ++ ys)) (and-l (ltb x 256) _ p) (octets-++ xs ys (and-r (ltb x 256) _ p) q)
 
-octets-rest : (xs ys : List ℕ) → Octets (xs ++ ys) → Octets ys
+pub octets-rest : (xs ys : List ℕ) → Octets (xs ++ ys) → Octets ys
 octets-rest [] ys p = p
 octets-rest (x ∷ xs) ys p = octets-rest xs ys (and-r (ltb x 256) _ p)
 
-octets-front : (xs ys : List ℕ) → Octets (xs ++ ys) → Octets xs
+pub octets-front : (xs ys : List ℕ) → Octets (xs ++ ys) → Octets xs
 octets-front [] ys p = tt
 octets-front (x ∷ xs) ys p = and-in (ltb x 256) (areBytes xs) (and-l (ltb x 256) _ p) (octets-front xs ys (and-r (ltb x 256) _ p))
 
@@ -48,7 +48,7 @@ pub found-map {ℓ} : {A B : Type 0} {X : Type ℓ} (f : A → B) (m : Res A) {b
 found-map f (got a k) {b} {n} e h = let e1 : f a ≡ b = cc in let e2 : k ≡ n = cc in h a (ap (got a) e2) e1
 found-map f (bad q p) e h = bad≢got e
 
-found-check {ℓ} : {A : Type 0} {X : Type ℓ} (q : ℕ) (t : A → Bool) (m : Res A) {b : A} {n : ℕ} → check q t m ≡ got b n → (m ≡ got b n → T (t b) → X) → X
+pub found-check {ℓ} : {A : Type 0} {X : Type ℓ} (q : ℕ) (t : A → Bool) (m : Res A) {b : A} {n : ℕ} → check q t m ≡ got b n → (m ≡ got b n → T (t b) → X) → X
 found-check {X = X} q t (got a k) {b} {n} e h = go (t a) refl e
   where
     go : (v : Bool) → t a ≡ v → pick v (got a k) (bad q 0) ≡ got b n → X
@@ -56,7 +56,7 @@ found-check {X = X} q t (got a k) {b} {n} e h = go (t a) refl e
     go false e1 e2 = bad≢got e2
 found-check q t (bad r p) e h = bad≢got e
 
-found-then {ℓ} : {A B : Type 0} {X : Type ℓ} (xs : List ℕ) (m : Res A) (f : A → List ℕ → Res B) {b : B} {n : ℕ} → andThen xs m f ≡ got b n
+pub found-then {ℓ} : {A B : Type 0} {X : Type ℓ} (xs : List ℕ) (m : Res A) (f : A → List ℕ → Res B) {b : B} {n : ℕ} → andThen xs m f ≡ got b n
     → ((a : A) (k j : ℕ) → m ≡ got a k → f a (drop k xs) ≡ got b j → k + j ≡ n → X) → X
 found-then xs (bad q p) f e h = bad≢got e
 found-then {B = B} {X = X} xs (got a k) f {b} {n} e h = go (f a (drop k xs)) refl e
@@ -85,7 +85,7 @@ digits-octets zero (x ∷ v) h = absurd h
 digits-octets (suc k) [] h = absurd h
 digits-octets (suc k) (x ∷ v) h = and-in (ltb x 256) (areBytes v) (and-l (ltb x 256) _ h) (digits-octets k v (and-r (ltb x 256) _ h))
 
-octets-digits : (v : List ℕ) → Octets v → T (digits (eights (length v)) v)
+pub octets-digits : (v : List ℕ) → Octets v → T (digits (eights (length v)) v)
 unfolding digits
 octets-digits [] h = tt
 octets-digits (x ∷ v) h = and-in (ltb x 256) _ (and-l (ltb x 256) _ h) (octets-digits v (and-r (ltb x 256) _ h))
@@ -210,3 +210,8 @@ lawful-seq {c} {d} L M = record {
       octets-++ (c .write (p .0)) ((d (p .0)) .write (p .1)) (L .octets (p .0) (and-l (c .okay (p .0)) _ k))
       ((M (p .0)) .octets (p .1) (and-r (c .okay (p .0)) _ k));
 }
+
+-- octets, one by one
+pub octets-all : (xs : List ℕ) → ((i : ℕ) → getD xs i 0 < 256) → Octets xs
+octets-all [] h = tt
+octets-all (x ∷ xs) h = and-in (ltb x 256) _ (lt→ltb x 256 (h 0)) (octets-all xs (λ i. h (suc i)))

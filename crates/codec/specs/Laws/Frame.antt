@@ -1,8 +1,8 @@
 -- LEN around a lawful codec: both round trips of a field, and acceptance exactly of what is laid out.
 use mathlib.Core.Path.{_≡_, refl, sym, ap, ap₂, _∙_, subst}
-use mathlib.Core.Bool.{Bool, true, false, _&&_}
+use mathlib.Core.Bool.{Bool, true, false}
 use mathlib.Core.List.{List, [], _∷_, _++_, append-nil, head-eq-of-cons-eq, tail-eq-of-cons-eq}
-use Prim.Native.Nat.{ℕ, zero, suc, _+_, _-_, _≤_, _<_}
+use Prim.Native.Nat.{ℕ, suc, _+_, _-_, _≤_, _<_}
 use native.Mathlib.Nat.{le-of-eq}
 use native.Mathlib.Omega.{arith}
 use lib.Dec.{T, ltb, leb, eqb, ltb→lt, lt→ltb, leb→le, le→leb}
@@ -11,7 +11,8 @@ use lib.Seq.{take-at, take-all, length-take-le}
 use borrow.Author.Tests.{lt-ltb, le-ltb, ltb-false, eqb-true, eq-eqb, ne-eqb}
 use Rattle.codec.specs.Pick.{pick}
 use Rattle.codec.specs.Codec.{Octets, Res, got, bad, mapRes, Codec, Lawful, via}
-use Rattle.codec.specs.Frame.{Outcome, accepted, refused, lenOf, settle, readFrame, writeFrame, okayFrame}
+use Rattle.codec.specs.Frame.{Outcome, accepted, refused, settle, readFrame, writeFrame, okayFrame}
+use Rattle.codec.specs.Meaning.{lenOf}
 use Rattle.codec.specs.Laws.Tests.{and-in, and-l, and-r}
 use Rattle.codec.specs.Laws.Codec.{octets-take}
 
@@ -29,7 +30,7 @@ pub not-refused {ℓ} : {X : Type ℓ} {A : Type 0} (b : Bool) (n p : ℕ) (m : 
 not-refused true n p m e k = refused≢accepted e
 not-refused false n p m e k = k refl e
 
-settled : {A : Type 0} (m : ℕ) (x : Res A) (r : A) → settle m x ≡ accepted r → x ≡ got r m
+pub settled : {A : Type 0} (m : ℕ) (x : Res A) (r : A) → settle m x ≡ accepted r → x ≡ got r m
 unfolding settle
 settled m (got q n) r e = go (eqb n m) refl e
   where

@@ -1,7 +1,7 @@
 -- `desk::allowed` meets its contract: one law at each way out. Assumes nothing.
 use borrow.Author.Needs.{needs}
 use denote.Ref.{now}
-use Rattle.desk.specs.Edits.{allowed-refused, allowed-yes, allowed-no}
+use Rattle.desk.specs.Laws.Edits.{allowed-refused, allowed-yes, allowed-no}
 use Rattle.desk.proofs.allowed.Statement.{statement}
 use Rattle.desk.proofs.allowed.Tie as tie
 

@@ -1,9 +1,7 @@
 -- `desk::exchanged` meets its contract. Assumes nothing.
-use mathlib.Core.Path.{sym}
-use native.Mathlib.Omega.{arith}
 use borrow.Author.Needs.{needs}
 use denote.Ref.{now}
-use Rattle.desk.specs.Edits.{exchange-parts, exchange-leaves}
+use Rattle.desk.specs.Laws.Edits.{exchange-parts, exchange-leaves}
 use Rattle.desk.proofs.exchanged.Statement.{statement}
 use Rattle.desk.proofs.exchanged.Tie as tie
 
@@ -12,14 +10,14 @@ spliced-requires c κs =
     let w = c .before .before in
     let s = w .before .before .before .before in
     let a = s .args in
-    exchange-parts (now (a .field)) (a .len) (a .t3) (a .item) (now (a .new)) (w .wide .ensures) (s .pre)
+    exchange-parts (now (a .field)) (a .len) (a .t3) (a .item) (now (a .new)) (w .wide .ensures .0) (s .pre)
 
 returns : tie.Need-returns
 returns c =
     let d = c .before .before in
     let w = d .before .before .before in
     let a = w .before .before .before .before .args in
-    exchange-leaves (now (a .field)) (a .len) (a .t3) (a .item) (now (a .new)) (w .wide .ensures) (a .items) (d .spliced .ensures)
+    exchange-leaves (now (a .field)) (a .len) (a .t3) (a .item) (now (a .new)) (w .wide .ensures .0) (a .items) (d .spliced .ensures)
 
 pub exchanged-spec : {M : Type 1} → statement M
 exchanged-spec =

@@ -1,48 +1,28 @@
--- `desk::paste` meets its contract: the loop has put the octets passed. Assumes nothing.
-use mathlib.Core.Path.{_≡_, refl, sym, ap, _∙_}
-use Prim.Native.Nat.{_+_, _-_, _≤_}
+-- `desk::paste` meets its contract: what stands from the place on begins with the octets. Assumes nothing.
+use mathlib.Core.Path.{_≡_, ap}
 use native.Mathlib.Omega.{arith}
 use borrow.Author.Needs.{needs}
 use denote.Ref.{now}
-use lib.ListN.{length, take}
-use lib.Seq.{sets}
-use mir.Facts.{fits-of-lt}
-use Rattle.desk.specs.Splicing.{paste-more, paste-all}
+use Prim.Native.Nat.{_-_}
+use lib.ListN.{length, drop, length-drop}
+use lib.Seq.{take-all}
+use Rattle.desk.specs.Laws.Splicing.{paste-is}
 use Rattle.desk.proofs.paste.Statement.{statement}
 use Rattle.desk.proofs.paste.Tie as tie
 
-abbrev Inv-loop : tie.InvT-loop
-Inv-loop from at octets₀ i₀ octets i = (i ≤ length from) × (octets ≡ sets octets₀ at (take i from))
+copy-requires : tie.Need-copy-requires
+copy-requires c κs =
+    let s = c .before .before .before in
+    let o = now (s .args .octets) in
+    let rest : length (drop (s .args .at) o) ≡ length o - s .args .at = length-drop (s .args .at) o in
+    omega (arith, s .pre, ap length (take-all (length o - s .args .at) (drop (s .args .at) o) (omega arith)))
 
-abbrev μ-loop : tie.MeasureT-loop
-μ-loop from at octets₀ i₀ octets i = length from - i
-
-loop-holds : tie.Need-loop-holds Inv-loop μ-loop
-loop-holds c = (omega arith, refl)
-
-add-put-octet : tie.Need-add-put-octet Inv-loop μ-loop
-add-put-octet c = let s = c .before .before .before .before in fits-of-lt (omega (arith, s .pre))
-
-put-octet-requires : tie.Need-put-octet-requires Inv-loop μ-loop
-put-octet-requires c κs =
-    let i = c .before .before in
-    let l = i .before in
-    omega (arith, l .before .before .pre, i .loop-test .taken)
-
-loop-again : tie.Need-loop-again Inv-loop μ-loop
-loop-again c =
-    let i = c .before .before .before in
-    let l = i .before in
-    let a = l .before .before .args in
-    (omega arith, c .put-octet .ensures ∙ rw (l .loop .inv .1) (paste-more (now (a .octets)) (a .at) (now (a .from)) (l .loop .i) (i .loop-test .taken)))
-
-returns : tie.Need-returns Inv-loop μ-loop
+returns : tie.Need-returns
 returns c =
-    let l = c .before in
-    let a = l .before .before .args in
-    l .loop .inv .1 ∙ paste-all (now (a .octets)) (a .at) (now (a .from)) (l .loop .i) (omega arith)
+    let p = c .before .before in
+    let s = p .before .before .before .before in
+    let a = s .args in
+    paste-is (now (a .octets)) (a .at) (now (a .from)) (s .pre) (p .copy .ensures .1)
 
 pub paste-spec : {M : Type 1} → statement M
-paste-spec =
-    tie.close
-    (tie.spec Inv-loop μ-loop loop-holds add-put-octet (λ c. omega arith) put-octet-requires (λ c. omega arith) (λ c. omega arith) loop-again returns)
+paste-spec = tie.close (tie.spec (λ c. omega (arith, c .before .before .pre)) (λ c. search needs) (λ c. search needs) (λ c κs. search needs) (λ c. search needs) returns)

@@ -1,14 +1,14 @@
 -- `desk::remove` meets its contract: one law at each way out. Assumes nothing.
-use mathlib.Core.Path.{_≡_, refl, sym, ap, _∙_}
+use mathlib.Core.Path.{refl, ap, _∙_}
 use native.Mathlib.Omega.{arith}
 use borrow.Author.Needs.{needs}
 use denote.Ref.{now}
 use lib.ListN.{length}
 use Rattle.codec.specs.Change.{remove, setFlag}
 use Rattle.codec.specs.Laws.Change.{newOctets, newFlag}
-use Rattle.promises.specs.Outputs.{refused-left}
-use Rattle.reader.specs.Surveys.{octets-all}
-use Rattle.desk.specs.Edits.{allowed-found, allowed-fell, edit-removes, exchange-asks, edit-made}
+use Rattle.scope.specs.Laws.Outputs.{refused-left}
+use Rattle.codec.specs.Laws.Codec.{octets-all}
+use Rattle.desk.specs.Laws.Edits.{allowed-found, allowed-fell, edit-removes, exchange-asks, edit-made}
 use Rattle.desk.proofs.remove.Statement.{statement}
 use Rattle.desk.proofs.remove.Tie as tie
 

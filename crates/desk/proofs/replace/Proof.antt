@@ -7,10 +7,10 @@ use denote.Ref.{now}
 use lib.ListN.{length}
 use Rattle.codec.specs.Change.{put, setFlag}
 use Rattle.codec.specs.Laws.Change.{newOctets, newFlag}
-use Rattle.promises.specs.Outputs.{refused-left}
-use Rattle.reader.specs.Surveys.{octets-all}
+use Rattle.scope.specs.Laws.Outputs.{refused-left}
+use Rattle.codec.specs.Laws.Codec.{octets-all}
 use Rattle.desk.specs.Asking.{rightOf}
-use Rattle.desk.specs.Edits.{allowed-found, allowed-fell, edit-wrong, edit-right, exchange-asks, edit-made}
+use Rattle.desk.specs.Laws.Edits.{allowed-found, allowed-fell, edit-wrong, edit-right, exchange-asks, edit-made}
 use Rattle.desk.proofs.replace.Statement.{statement}
 use Rattle.desk.proofs.replace.Tie as tie
 

@@ -1,13 +1,14 @@
 -- `desk::right` meets its contract: the octets are the field of the item alone. Assumes nothing.
-use mathlib.Core.Path.{_≡_, refl, sym, ap, _∙_}
+use mathlib.Core.Path.{_≡_, refl, ap, _∙_}
 use Prim.Native.Nat.{ℕ, _+_, _≤_}
 use native.Mathlib.Omega.{arith}
 use borrow.Author.Needs.{needs}
 use denote.Ref.{now}
 use lib.ListN.{length, take, replicate, set}
+use Rattle.leaves.specs.{octet-is}
 use Rattle.codec.specs.Change.{alone}
-use Rattle.desk.specs.Asking.{right-none, right-long, right-is}
-use Rattle.desk.specs.Splicing.{alone-whole}
+use Rattle.desk.specs.Laws.Asking.{right-none, right-long, right-is}
+use Rattle.desk.specs.Laws.Splicing.{alone-whole}
 use Rattle.desk.proofs.right.Statement.{statement}
 use Rattle.desk.proofs.right.Tie as tie
 
@@ -26,12 +27,12 @@ whole c =
     let o = w .before in
     let e = o .before in
     let a = e .before .before .before .args in
-    alone-whole (a .i) (now (a .new)) (replicate 255 0) refl (w .with-item .ensures) (omega (arith, e .if2 .left)) (ap (λ (k : ℕ). set (set (replicate 255 0) 0 k) 1 (w .with-item .result)) (o .octet .ensures)) (c .paste .ensures)
+    alone-whole (a .i) (now (a .new)) (replicate 255 0) refl (w .with-item .ensures) (omega (arith, e .if2 .left)) (ap (λ (k : ℕ). set (set (replicate 255 0) 0 k) 1 (w .with-item .result)) (o .octet .ensures ∙ octet-is (length (now (a .new)) + 2) (omega (arith, e .if2 .left)))) (c .paste .ensures)
 
 returns-3 : tie.Need-returns-3
 returns-3 c =
     let v = c .before in
-    let p = v .before .before in
+    let p = v .before .before .before in
     let e = p .before .before .before .before in
     let s = e .before in
     let a = s .before .before .args in
@@ -48,10 +49,11 @@ right-spec =
     (λ c. search needs)
     (λ c κs. search needs)
     (λ c. search needs)
+    (λ c. search needs)
     (λ c κs. search needs)
     (λ c. search needs)
-    (λ c. whole c .0)
-    (λ c. whole (c .before) .1)
+    (λ c. whole (c .before) .0)
+    (λ c. whole (c .before .before) .1)
     (λ c κs. search needs)
     (λ c κs. search needs)
     returns-3)

@@ -8,8 +8,9 @@ use lib.ListN.{length, length-map}
 use mir.Syntax.{w32}
 use mir.Val.{toZ, ofZ}
 use mir.Facts.{toZ-ofZ}
-use Rattle.exports.specs.Arrays.{arrayOf}
+use Rattle.exports.specs.Arrays.{PLACES, arrayOf}
 use Rattle.exports.specs.Laws.Arrays.{begun, midway, finished, begun-length, parts-room, midway-length, numbers-room, array-made, array-places}
+use Rattle.layout.specs.Record.{SLOTS}
 use Rattle.exports.proofs.fill.Statement.{statement}
 use Rattle.exports.proofs.fill.Tie as tie
 
@@ -17,7 +18,7 @@ use Rattle.exports.proofs.fill.Tie as tie
 parts-many : (c : tie.Start) → length (c .args .kept .parts) ≡ 8
 parts-many c = search needs
 
-numbers-many : (c : tie.Start) → length (c .args .kept .numbers) ≡ 77
+numbers-many : (c : tie.Start) → length (c .args .kept .numbers) ≡ SLOTS
 numbers-many c = search needs
 
 part-widen-end : tie.Need-part-widen-end
@@ -43,7 +44,7 @@ start c = c .before .before .before .before .before .before .before
 parts-put : (c : tie.After-widen) → length (c .widen .last .1 .0) ≡ 8
 parts-put c = ap length (c .widen .ensures) ∙ length-map (start c .args .kept .parts) pos ∙ parts-many (start c)
 
-half-length : (c : tie.After-widen) → length (midway (begun (now (start c .args .out)) (first c) (second c)) (c .widen .last .1 .0)) ≡ 87
+half-length : (c : tie.After-widen) → length (midway (begun (now (start c .args .out)) (first c) (second c)) (c .widen .last .1 .0)) ≡ PLACES
 half-length c = midway-length (now (start c .args .out)) (start c .pre) (first c) (second c) (c .widen .last .1 .0) (parts-put c)
 
 sub-copy : tie.Need-sub-copy

@@ -4,8 +4,8 @@ use native.Mathlib.Omega.{arith}
 use borrow.Author.Needs.{needs}
 use denote.Ref.{now}
 use Rattle.layout.specs.declared.Choice.{Choice}
-use Rattle.reader.specs.Surveys.{octets-all}
-use Rattle.exports.specs.Words.{sideWord, choiceWord}
+use Rattle.codec.specs.Laws.Codec.{octets-all}
+use Rattle.exports.specs.Packed.{sideWord, choiceWord}
 use Rattle.exports.specs.Laws.Fits.{FitView, choose-fits}
 use Rattle.exports.proofs.ref_choose.Statement.{statement}
 use Rattle.exports.proofs.ref_choose.Tie as tie

@@ -6,8 +6,8 @@ use denote.Ref.{now}
 use lib.ListN.{length}
 use Rattle.codec.specs.Change.{remove}
 use Rattle.codec.specs.Laws.Change.{newOctets}
-use Rattle.reader.specs.Surveys.{octets-all}
-use Rattle.exports.specs.Words.{answerWord}
+use Rattle.codec.specs.Laws.Codec.{octets-all}
+use Rattle.exports.specs.Packed.{answerWord}
 use Rattle.exports.specs.Laws.Fits.{FitAnswer, edit-fits}
 use Rattle.exports.proofs.ref_remove.Statement.{statement}
 use Rattle.exports.proofs.ref_remove.Tie as tie
@@ -24,7 +24,7 @@ answer-word-requires c κs =
 returns : tie.Need-returns
 returns c =
     let d = c .before .before .before .remove .ensures in
-    (c .answer-word .ensures ∙ ap answerWord (d .answer), d .output)
+    record { word = c .answer-word .ensures ∙ ap answerWord (d .answer); output = d .output }
 
 pub ref-remove-spec : {M : Type 1} → statement M
 ref-remove-spec = tie.close (tie.spec (λ c κs. search needs) answer-word-requires (λ c. search needs) returns)

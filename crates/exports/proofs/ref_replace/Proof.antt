@@ -6,8 +6,8 @@ use denote.Ref.{now}
 use lib.ListN.{length}
 use Rattle.codec.specs.Change.{put}
 use Rattle.codec.specs.Laws.Change.{newOctets}
-use Rattle.reader.specs.Surveys.{octets-all}
-use Rattle.exports.specs.Words.{answerWord}
+use Rattle.codec.specs.Laws.Codec.{octets-all}
+use Rattle.exports.specs.Packed.{answerWord}
 use Rattle.exports.specs.Laws.Fits.{FitAnswer, edit-fits}
 use Rattle.exports.proofs.ref_replace.Statement.{statement}
 use Rattle.exports.proofs.ref_replace.Tie as tie
@@ -25,7 +25,7 @@ answer-word-requires c κs =
 returns : tie.Need-returns
 returns c =
     let d = c .before .before .before .replace .ensures in
-    (c .answer-word .ensures ∙ ap answerWord (d .answer), d .output)
+    record { word = c .answer-word .ensures ∙ ap answerWord (d .answer); output = d .output }
 
 pub ref-replace-spec : {M : Type 1} → statement M
 ref-replace-spec = tie.close (tie.spec (λ c κs. search needs) answer-word-requires (λ c. search needs) returns)

@@ -4,8 +4,8 @@ use native.Mathlib.Omega.{arith}
 use borrow.Author.Needs.{needs}
 use denote.Ref.{now}
 use lib.ListN.{length}
-use Rattle.reader.specs.Surveys.{octets-all}
-use Rattle.exports.specs.Words.{answerWord}
+use Rattle.codec.specs.Laws.Codec.{octets-all}
+use Rattle.exports.specs.Packed.{answerWord}
 use Rattle.exports.specs.Laws.Fits.{FitAnswer, sheet-fits}
 use Rattle.exports.proofs.ref_sheet.Statement.{statement}
 use Rattle.exports.proofs.ref_sheet.Tie as tie
@@ -20,7 +20,7 @@ answer-word-requires c κs =
 returns : tie.Need-returns
 returns c =
     let d = c .before .before .before .sheet .ensures in
-    (c .answer-word .ensures ∙ ap answerWord (d .answer), d .output)
+    record { word = c .answer-word .ensures ∙ ap answerWord (d .answer); output = d .output }
 
 pub ref-sheet-spec : {M : Type 1} → statement M
 ref-sheet-spec = tie.close (tie.spec (λ c κs. search needs) answer-word-requires (λ c. search needs) returns)

@@ -3,8 +3,8 @@ use mathlib.Core.Path.{sym, ap, _∙_, subst}
 use native.Mathlib.Omega.{arith}
 use borrow.Author.Needs.{needs}
 use denote.Ref.{now}
-use Rattle.reader.specs.Surveys.{octets-all}
-use Rattle.exports.specs.Words.{viewWord}
+use Rattle.codec.specs.Laws.Codec.{octets-all}
+use Rattle.exports.specs.Packed.{viewWord}
 use Rattle.exports.specs.Laws.Fits.{FitView, view-fits}
 use Rattle.exports.proofs.ref_view.Statement.{statement}
 use Rattle.exports.proofs.ref_view.Tie as tie

@@ -3,7 +3,7 @@ use mathlib.Core.Path.{sym, ap, _∙_, subst}
 use borrow.Author.Needs.{needs}
 use denote.Ref.{now}
 use lib.ListN.{length}
-use Rattle.exports.specs.Words.{answerWord}
+use Rattle.exports.specs.Packed.{answerWord}
 use Rattle.exports.specs.Laws.Fits.{FitAnswer, write-fits}
 use Rattle.exports.proofs.ref_write.Statement.{statement}
 use Rattle.exports.proofs.ref_write.Tie as tie
@@ -17,7 +17,7 @@ answer-word-requires c κs =
 returns : tie.Need-returns
 returns c =
     let d = c .before .before .before .write-array .ensures in
-    (c .answer-word .ensures ∙ ap answerWord (d .answer), d .output)
+    record { word = c .answer-word .ensures ∙ ap answerWord (d .answer); output = d .output }
 
 pub ref-write-spec : {M : Type 1} → statement M
 ref-write-spec = tie.close (tie.spec (λ c κs. search needs) answer-word-requires (λ c. search needs) returns)

@@ -22,14 +22,16 @@ use Rattle.layout.specs.declared.Which.the-variants.{Neither, Base, Correction}
 use Rattle.layout.specs.Answer.{numberOf, placeOf, lengthOf, viewNumber, viewPlace, viewLength, whichNumber}
 use Rattle.layout.specs.Papers.{known}
 use Rattle.scope.specs.Reading.{readOf}
-use Rattle.scope.specs.Writing.{writable, written, withRoom, writeOf, answerOf}
+use Rattle.scope.specs.Writing.{writable, written, writeOf}
+use Rattle.scope.specs.Outputs.{withRoom, answerOf}
 use Rattle.scope.specs.Views.{viewOf, chooseOf}
 use Rattle.scope.specs.Desk.{editOf}
-use Rattle.exports.specs.Words.{answerWord, sideWord, viewWord, choiceWord}
-use Rattle.exports.specs.Arrays.{arrayOf, fillAnswer, isOctet, areOctets, octetOf, recordOf, writeArray}
-use Rattle.exports.specs.Laws.Words.{Tells, word-tells}
+use Rattle.exports.specs.Packed.{answerWord, sideWord, viewWord, choiceWord}
+use Rattle.exports.specs.Arrays.{PLACES, arrayOf, fillAnswer, isOctet, areOctets, octetOf, ofArray, writeArray}
+use Rattle.exports.specs.Laws.Packed.{Tells, word-tells}
 use Rattle.exports.specs.Laws.Fits.{FitAnswer, read-fits, fill-fits, write-fits, view-fits, choose-fits, edit-fits}
 use Rattle.exports.specs.Laws.Arrays.{array-places}
+use Rattle.layout.specs.Record.{SLOTS}
 
 refused≢accepted : {A X : Type 0} {x : A} {n p : ℕ} → refused n p ≡ accepted x → X
 refused≢accepted h = let z : _≡_ {A = ℕ} 0 1 = cc in absurd (omega arith)
@@ -66,14 +68,14 @@ pub record Sized (f : Record) : Type 0 where
   pub items-octet : f .items < 256
   pub parts-octets : Octets (f .parts)
   pub parts-many : length (f .parts) ≡ 8
-  pub numbers-many : length (f .numbers) ≡ 77
+  pub numbers-many : length (f .numbers) ≡ SLOTS
 
 module _ (f : Record) (s : Sized f) where
   parts-there : take 8 (map pos (f .parts) ++ f .numbers) ≡ map pos (f .parts)
   parts-there = take-at (map pos (f .parts)) (f .numbers) 8 (length-map (f .parts) pos ∙ s .parts-many)
 
-  pub record-array : recordOf (arrayOf f) ≡ f
-  unfolding recordOf arrayOf
+  pub record-array : ofArray (arrayOf f) ≡ f
+  unfolding ofArray arrayOf
   record-array = λ t. record {
     cat = octet-pos (f .cat) (s .cat-octet) t;
     items = octet-pos (f .items) (s .items-octet) t;
@@ -87,11 +89,11 @@ module _ (f : Record) (s : Sized f) where
       let t : T (areOctets (map pos (f .parts))) = are-octets (f .parts) (s .parts-octets) in
       rw (lt-ltb (f .items) 256 (s .items-octet)) (ap areOctets parts-there ∙ holds (areOctets (map pos (f .parts))) t)
 
-  array-picked : (room : ℕ) (r : Record) → recordOf (arrayOf f) ≡ r → writeArray (arrayOf f) room ≡ pick (known (r .cat)) (writeOf r room) (refused 1 0)
+  array-picked : (room : ℕ) (r : Record) → ofArray (arrayOf f) ≡ r → writeArray (arrayOf f) room ≡ pick (known (r .cat)) (writeOf r room) (refused 1 0)
   unfolding writeArray
   array-picked room r e =
       subst (λ x. writeArray (arrayOf f) room ≡ pick (known (x .cat)) (writeOf x room) (refused 1 0)) e
-      (rw (eq-eqb (length (arrayOf f)) 87 (array-places f (s .parts-many) (s .numbers-many)), octets-there) refl)
+      (rw (eq-eqb (length (arrayOf f)) PLACES (array-places f (s .parts-many) (s .numbers-many)), octets-there) refl)
 
   -- the array of a record is answered and written as the record is
   pub array-writes : (room : ℕ) → writeArray (arrayOf f) room ≡ writeOf f room
@@ -113,8 +115,8 @@ known-octet (pos n) k = go (ltb n 256) k
     go false h = let e : _≡_ {A = ℕ} 0 1 = cc in absurd (omega arith)
 known-octet (negsuc n) k = let e : _≡_ {A = ℕ} 0 1 = cc in absurd (omega arith)
 
-array-record : (a : List ℤ) → length a ≡ 87 → T (isOctet (getD a 0 (pos 0))) → T (areOctets (take 9 (drop 1 a))) → arrayOf (recordOf a) ≡ a
-unfolding arrayOf recordOf areOctets
+array-record : (a : List ℤ) → length a ≡ PLACES → T (isOctet (getD a 0 (pos 0))) → T (areOctets (take 9 (drop 1 a))) → arrayOf (ofArray a) ≡ a
+unfolding arrayOf ofArray areOctets
 array-record [] l x t = absurd (omega arith)
 array-record (z ∷ []) l x t = absurd (omega arith)
 array-record (z ∷ y ∷ a) l x t =
@@ -123,13 +125,13 @@ array-record (z ∷ y ∷ a) l x t =
     (ap (_++ drop 8 a) (pos-octets (take 8 a) (and-r (isOctet y) _ t)) ∙ take-append-drop 8 a))
 
 -- no array is written but that of a record that is: no two arrays are written alike
-pub array-written : (a : List ℤ) (room : ℕ) (b : List ℕ) → writeArray a room ≡ accepted b → (arrayOf (recordOf a) ≡ a) × (writeOf (recordOf a) room ≡ accepted b)
-unfolding writeArray recordOf
-array-written a room b e = go (eqb (length a) 87) refl (known (octetOf (getD a 0 (pos 0)))) refl (areOctets (take 9 (drop 1 a))) refl e
+pub array-written : (a : List ℤ) (room : ℕ) (b : List ℕ) → writeArray a room ≡ accepted b → (arrayOf (ofArray a) ≡ a) × (writeOf (ofArray a) room ≡ accepted b)
+unfolding writeArray ofArray
+array-written a room b e = go (eqb (length a) PLACES) refl (known (octetOf (getD a 0 (pos 0)))) refl (areOctets (take 9 (drop 1 a))) refl e
   where
-    go : (x : Bool) → eqb (length a) 87 ≡ x → (y : Bool) → known (octetOf (getD a 0 (pos 0))) ≡ y → (z : Bool) → areOctets (take 9 (drop 1 a)) ≡ z
-        → pick x (pick y (pick z (writeOf (recordOf a) room) (refused 10 0)) (refused 1 0)) (refused 10 0) ≡ accepted b → (arrayOf (recordOf a) ≡ a) × (writeOf (recordOf a) room ≡ accepted b)
-    go true ex true ey true ez h = (array-record a (eqb-true (length a) 87 ex) (known-octet (getD a 0 (pos 0)) ey) (subst T (sym ez) tt), h)
+    go : (x : Bool) → eqb (length a) PLACES ≡ x → (y : Bool) → known (octetOf (getD a 0 (pos 0))) ≡ y → (z : Bool) → areOctets (take 9 (drop 1 a)) ≡ z
+        → pick x (pick y (pick z (writeOf (ofArray a) room) (refused 10 0)) (refused 1 0)) (refused 10 0) ≡ accepted b → (arrayOf (ofArray a) ≡ a) × (writeOf (ofArray a) room ≡ accepted b)
+    go true ex true ey true ez h = (array-record a (eqb-true (length a) PLACES ex) (known-octet (getD a 0 (pos 0)) ey) (subst T (sym ez) tt), h)
     go true ex true ey false ez h = refused≢accepted h
     go true ex false ey z ez h = refused≢accepted h
     go false ex y ey z ez h = refused≢accepted h

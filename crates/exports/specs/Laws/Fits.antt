@@ -11,7 +11,8 @@ use Rattle.codec.specs.Pick.{pick}
 use Rattle.codec.specs.Codec.{Octets}
 use Rattle.codec.specs.Item.{Item}
 use Rattle.codec.specs.Field.{Contents, body}
-use Rattle.codec.specs.Frame.{Outcome, accepted, refused, lenOf, readFrame, writeFrame, okayFrame}
+use Rattle.codec.specs.Frame.{Outcome, accepted, refused, readFrame, writeFrame, okayFrame}
+use Rattle.codec.specs.Meaning.{lenOf}
 use Rattle.codec.specs.Change.{Change, remove, put, alone, putIn, change}
 use Rattle.codec.specs.Laws.Change.{newOctets}
 use Rattle.codec.specs.Laws.Tests.{and-l, and-r}
@@ -28,17 +29,18 @@ use Rattle.layout.specs.Answer.{placeOf, lengthOf, viewPlace, viewLength}
 use Rattle.layout.specs.Papers.{known, paperOf}
 use Rattle.layout.specs.Record.{contents}
 use Rattle.scope.specs.Reading.{fieldOf, readOf}
-use Rattle.scope.specs.Writing.{writable, written, withRoom, writeOf, answerOf}
+use Rattle.scope.specs.Writing.{writable, written, writeOf}
+use Rattle.scope.specs.Outputs.{withRoom, answerOf}
 use Rattle.scope.specs.Sheet.{sheetOf}
 use Rattle.scope.specs.Views.{isItem, present, standing, viewIn, viewOf, chooseIn, chooseOf}
 use Rattle.scope.specs.Desk.{listed, afresh, editIn, editOf}
-use Rattle.promises.specs.Reading.{read-found}
-use Rattle.promises.specs.Refusals.{place-within}
-use Rattle.promises.specs.Views.{view-inside}
-use Rattle.promises.specs.Edits.{edit-found, edited-octets, edit-afresh}
-use Rattle.text.specs.Longest.{sheet-longest}
-use Rattle.exports.specs.Words.{Fit}
-use Rattle.exports.specs.Arrays.{areOctets, recordOf, fillAnswer, writeArray}
+use Rattle.scope.specs.Laws.Reading.{read-found}
+use Rattle.scope.specs.Laws.Refusals.{place-within}
+use Rattle.scope.specs.Laws.Views.{view-inside}
+use Rattle.scope.specs.Laws.Edits.{edit-found, edited-octets, edit-afresh}
+use Rattle.text.specs.Laws.Longest.{sheet-longest}
+use Rattle.exports.specs.Packed.{Fit}
+use Rattle.exports.specs.Arrays.{PLACES, areOctets, ofArray, fillAnswer, writeArray}
 
 -- what fits of an answer, of a view, of an outcome
 abbrev pub FitAnswer : Answer → Type 0
@@ -68,7 +70,7 @@ read-fits cat s o = go (readOf cat s .answer) refl
 pub fill-fits : (room : ℕ) (a : Answer) → FitAnswer a → FitAnswer (fillAnswer room a)
 unfolding fillAnswer placeOf lengthOf
 fill-fits room (Refused n p) f = f
-fill-fits room (Accepted n) f = go (eqb room 87)
+fill-fits room (Accepted n) f = go (eqb room PLACES)
   where
     go : (b : Bool) → FitAnswer (pick b (Accepted n) (Refused 11 0))
     go true = f
@@ -108,10 +110,10 @@ write-outcome f room =
 pub write-fits : (a : List ℤ) (room : ℕ) → FitAnswer (answerOf (writeArray a room))
 unfolding writeArray FitOutcome
 write-fits a room =
-    let f : Record = recordOf a in
+    let f : Record = ofArray a in
     let o : Outcome (List ℕ) = pick (areOctets (take 9 (drop 1 a))) (writeOf f room) (refused 10 0) in
     outcome-fits (writeArray a room)
-    (pick-fits (eqb (length a) 87) (pick (known (f .cat)) o (refused 1 0)) (refused 10 0)
+    (pick-fits (eqb (length a) PLACES) (pick (known (f .cat)) o (refused 1 0)) (refused 10 0)
     (λ _. pick-fits (known (f .cat)) o (refused 1 0)
     (λ _. pick-fits (areOctets (take 9 (drop 1 a))) (writeOf f room) (refused 10 0) (λ _. write-outcome f room) (omega arith)) (omega arith)) (omega arith))
 

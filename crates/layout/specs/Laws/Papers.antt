@@ -1,21 +1,24 @@
 -- What holds of every paper, by computed tests.
-use mathlib.Core.Path.{_≡_, refl, sym, ap, _∙_}
+use mathlib.Core.Path.{_≡_, refl, subst}
 use mathlib.Core.Bool.{Bool, true, false}
-use mathlib.Core.List.{List, [], _∷_}
-use Prim.Native.Nat.{ℕ, zero, suc, _+_, _≤_, _<_}
+use mathlib.Core.List.{List, []}
+use Prim.Native.Nat.{ℕ, _≤_}
 use lib.Dec.{T, eqb, leb, leb→le}
 use lib.ListN.{length, drop}
 use borrow.Author.Tests.{ne-eqb}
 use Rattle.codec.specs.Pick.{pick}
-use Rattle.codec.specs.Radix.{total}
-use Rattle.codec.specs.Line.{count, widths, fills}
-use Rattle.codec.specs.Item.{Item, slotsOf, slots, octetsOf, longestItem, goodLines, goodItem}
+use Rattle.codec.specs.Line.{count}
+use Rattle.codec.specs.Item.{Item, slotsOf, slots, octetsOf, longestItem}
 use Rattle.codec.specs.Field.{goodItems, longestRow, longest}
-use Rattle.layout.specs.Cat048.{cat048}
-use Rattle.layout.specs.Cat021.{cat021}
-use Rattle.layout.specs.Cat007.{cat007}
-use Rattle.layout.specs.Papers.{known, paperOf, itemsOf, longestOf}
-use Rattle.layout.specs.Record.{allSlots}
+use Rattle.codec.specs.Printed.{Entry, adjacent, rightAll, rightFlags, rightEntry, right}
+use Rattle.codec.specs.Made.{made}
+use Rattle.codec.specs.Laws.Alone.{leastItem, someOctets}
+use Rattle.codec.specs.Laws.Meaning.{right-good}
+use Rattle.layout.specs.Cat048.{printed048, cat048}
+use Rattle.layout.specs.Cat021.{printed021, cat021}
+use Rattle.layout.specs.Cat007.{printed007, cat007}
+use Rattle.layout.specs.Papers.{LONGEST, known, paperOf, printedOf, itemsOf, longestOf}
+use Rattle.layout.specs.Record.{SLOTS, allSlots}
 
 -- a fact of each paper, and of no paper, is a fact of every category's
 pub by-paper : (P : List Item → Type 0) → P cat048 → P cat021 → P cat007 → P [] → (cat : ℕ) → P (paperOf cat)
@@ -28,23 +31,57 @@ by-paper P a b c d cat = go (eqb cat 48) (eqb cat 21) (eqb cat 7)
     go false false true = c
     go false false false = d
 
--- every line fills its octets
+pub by-printed : (P : List Entry → Type 0) → P printed048 → P printed021 → P printed007 → P [] → (cat : ℕ) → P (printedOf cat)
+unfolding printedOf
+by-printed P a b c d cat = go (eqb cat 48) (eqb cat 21) (eqb cat 7)
+  where
+    go : (x y z : Bool) → P (pick x printed048 (pick y printed021 (pick z printed007 [])))
+    go true y z = a
+    go false true z = b
+    go false false true = c
+    go false false false = d
+
+-- each paper is made from what is printed
+pub made-paper : (cat : ℕ) → made (printedOf cat) ≡ paperOf cat
+unfolding paperOf printedOf cat048 cat021 cat007
+made-paper cat = go (eqb cat 48) (eqb cat 21) (eqb cat 7)
+  where
+    go : (x y z : Bool) → made (pick x printed048 (pick y printed021 (pick z printed007 []))) ≡ pick x cat048 (pick y cat021 (pick z cat007 []))
+    go true y z = refl
+    go false true z = refl
+    go false false true = refl
+    go false false false = refl
+
+-- the runs of every structure follow each other from its highest bit down, and the bits of a primary subfield have the names of the subfields
+pub right-paper : (cat : ℕ) → T (right (printedOf cat))
+unfolding right rightEntry rightAll rightFlags adjacent printed048 printed021 printed007
+right-paper cat = by-printed (λ es. T (right es)) tt tt tt tt cat
+
+-- so every line fills its octets
 pub good-paper : (cat : ℕ) → T (goodItems (paperOf cat))
-unfolding goodItems goodItem goodLines fills widths total cat048 cat021 cat007
-good-paper cat = by-paper (λ its. T (goodItems its)) tt tt tt tt cat
+good-paper cat = subst (λ its. T (goodItems its)) (made-paper cat) (right-good (printedOf cat) (right-paper cat))
+
+pub few-printed : (cat : ℕ) → length (printedOf cat) ≤ 8
+unfolding printed048 printed021 printed007
+few-printed cat = leb→le (length (printedOf cat)) 8 (by-printed (λ es. T (leb (length es) 8)) tt tt tt tt cat)
 
 -- at most eight items, 77 numbers, 52 octets
 pub few-items : (cat : ℕ) → itemsOf cat ≤ 8
 unfolding cat048 cat021 cat007
 few-items cat = leb→le (itemsOf cat) 8 (by-paper (λ its. T (leb (length its) 8)) tt tt tt tt cat)
 
-pub few-slots : (cat : ℕ) → allSlots (paperOf cat) ≤ 77
+pub few-slots : (cat : ℕ) → allSlots (paperOf cat) ≤ SLOTS
 unfolding allSlots slots slotsOf count cat048 cat021 cat007
-few-slots cat = leb→le (allSlots (paperOf cat)) 77 (by-paper (λ its. T (leb (allSlots its) 77)) tt tt tt tt cat)
+few-slots cat = leb→le (allSlots (paperOf cat)) SLOTS (by-paper (λ its. T (leb (allSlots its) SLOTS)) tt tt tt tt cat)
 
-pub few-octets : (cat : ℕ) → longestOf cat ≤ 52
+pub few-octets : (cat : ℕ) → longestOf cat ≤ LONGEST
 unfolding longest longestRow longestItem octetsOf cat048 cat021 cat007
-few-octets cat = leb→le (longestOf cat) 52 (by-paper (λ its. T (leb (longest its) 52)) tt tt tt tt cat)
+few-octets cat = leb→le (longestOf cat) LONGEST (by-paper (λ its. T (leb (longest its) LONGEST)) tt tt tt tt cat)
+
+-- every item has an octet at least
+pub some-octets : (cat : ℕ) → T (someOctets (paperOf cat))
+unfolding someOctets leastItem cat048 cat021 cat007
+some-octets cat = by-paper (λ its. T (someOctets its)) tt tt tt tt cat
 
 -- documents 000 and 004 lay out M5N, M4E, RPC and ERR alike
 pub items-shared : drop 1 cat007 ≡ drop 1 cat048

@@ -15,11 +15,11 @@ use Rattle.layout.specs.declared.Answer.{Answer}
 use Rattle.layout.specs.declared.Answer.the-variants.{Accepted}
 use Rattle.layout.specs.Answer.{lengthOf}
 use Rattle.scope.specs.Sheet.{sheetOf}
-use Rattle.scope.specs.Writing.{withRoom, answerOf, after}
-use Rattle.promises.specs.Outputs.{Leaves}
-use Rattle.promises.specs.Reading.{Accepted≢Refused}
-use Rattle.reader.specs.Surveys.{octets-all}
-use Rattle.text.specs.Longest.{longestSheet, sheet-longest}
+use Rattle.scope.specs.Outputs.{withRoom, answerOf, after, Leaves}
+use Rattle.layout.specs.Laws.Answer.{Accepted≢Refused}
+use Rattle.codec.specs.Laws.Codec.{octets-all}
+use Rattle.text.specs.Longest.{longestSheet}
+use Rattle.text.specs.Laws.Longest.{sheet-longest}
 use Rattle.listing.proofs.listed.Statement.{statement}
 use Rattle.listing.proofs.listed.Tie as tie
 

@@ -6,10 +6,11 @@ use native.Mathlib.Omega.{arith}
 use borrow.Author.Needs.{needs}
 use denote.Ref.{now}
 use Rattle.tables.specs.Lines.{firstAt}
-use Rattle.reader.specs.Walk.{stands}
-use Rattle.reader.specs.Chains.{rest-ok, room-line, room-next, walk-stop, walk-over, walk-end, next-ready, walk-on}
+use Rattle.reader.specs.Laws.Walk.{stands}
+use Rattle.reader.specs.Laws.Chains.{rest-ok, room-line, room-next, walk-stop, walk-over, walk-end, next-ready, walk-on}
 use borrow.Fn.Kinds.{In}
 use borrow.Fn.PlainCycle.{Measures, is, falls, and}
+use Rattle.layout.specs.Record.{SLOTS}
 use Rattle.reader.proofs.rest.Reads as rest
 use Rattle.reader.proofs.rest.Kinds as rest-kinds
 use Rattle.reader.proofs.+rest.Lts-rest as rest-lts
@@ -64,7 +65,7 @@ rest-line-requires t c κs =
     let s = d .before .before .before .before .before .before in
     let a = s .args in
     let g = s .pre .1 in
-    le-trans (room-line (a .base) (a .b + 1) (a .left - 1) (rest-ok (a .b) (a .left) (d .if2 .left) (g .2))) (subst (_≤ 77) (room-next (a .base) (a .b) (a .left) (d .if2 .left)) (g .3))
+    le-trans (room-line (a .base) (a .b + 1) (a .left - 1) (rest-ok (a .b) (a .left) (d .if2 .left) (g .2))) (subst (_≤ SLOTS) (room-next (a .base) (a .b) (a .left) (d .if2 .left)) (g .3))
 
 -- src/lib.rt:41:33
 rest-add-rest : (t : ℕ) → rest-lts.Need-add-rest (calls t) (rest-at t) rest.Post
@@ -85,7 +86,7 @@ rest-rest-requires t c κs =
     let s = d .before .before .before .before .before .before in
     let a = s .args in
     let g = s .pre .1 in
-    (omega arith, (omega (arith, g), omega (arith, g), rest-ok (a .b) (a .left) (d .if2 .left) (g .2), subst (_≤ 77) (room-next (a .base) (a .b) (a .left) (d .if2 .left)) (g .3)))
+    (omega arith, (omega (arith, g), omega (arith, g), rest-ok (a .b) (a .left) (d .if2 .left) (g .2), subst (_≤ SLOTS) (room-next (a .base) (a .b) (a .left) (d .if2 .left)) (g .3)))
 
 -- src/lib.rt:41:9
 rest-returns-3 : (t : ℕ) → rest-lts.Need-returns-3 (calls t) (rest-at t) rest.Post

@@ -2,8 +2,8 @@
 use native.Mathlib.Nat.{le-trans}
 use native.Mathlib.Omega.{arith}
 use denote.Ref.{now}
-use Rattle.reader.specs.Walk.{stands}
-use Rattle.reader.specs.Chains.{room-line}
+use Rattle.reader.specs.Laws.Walk.{stands}
+use Rattle.reader.specs.Laws.Chains.{room-line}
 use Rattle.reader.proofs.chain.Statement.{statement}
 use Rattle.reader.proofs.chain.Tie as tie
 

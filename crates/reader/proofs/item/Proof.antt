@@ -13,7 +13,9 @@ use Rattle.tables.specs.Lines.{items, placedFrom, placedIn, placed, placedAt, i
 use Rattle.tables.specs.Shapes.{linesFrom, partsOk, flagsUnder, itemOf}
 use Rattle.reader.specs.Steps.{lineRun}
 use Rattle.reader.specs.Chains.{chainRoom}
-use Rattle.reader.specs.Items.{itemRun, chain-ready, as-item, as-line, as-chain, past-items}
+use Rattle.reader.specs.Items.{itemRun}
+use Rattle.reader.specs.Laws.Items.{chain-ready, as-item, as-line, as-chain, past-items}
+use Rattle.layout.specs.Record.{SLOTS}
 use Rattle.reader.proofs.item.Statement.{statement}
 use Rattle.reader.proofs.item.Tie as tie
 
@@ -22,20 +24,20 @@ unfolding flagsUnder itemRun itemOf linesFrom partsOk chainRoom item itemAt line
 item-spec =
     tie.close
     (tie.spec
-    (λ c κs. (subst (λ j. c .before .before .before .args .base + slots (itemAt j) ≤ 77) (c .before .match .keys1) (c .before .before .before .pre .0), c .before .before .before .pre .1))
-    (λ c κs. (subst (λ j. c .before .before .before .args .base + slots (itemAt j) ≤ 77) (c .before .match .keys2) (c .before .before .before .pre .0), c .before .before .before .pre .1))
-    (λ c κs. (omega arith, omega arith, tt, omega (arith, subst (λ j. c .before .before .before .args .base + slots (itemAt j) ≤ 77) (c .before .match .keys3) (c .before .before .before .pre .0)), chain-ready 18 0 (now (c .before .before .before .args .s)) (c .before .before .before .args .at) (c .before .before .before .args .base) (now (c .before .before .before .args .numbers)) refl (c .before .before .before .pre .1)))
-    (λ c κs. (subst (λ j. c .before .before .before .args .base + slots (itemAt j) ≤ 77) (c .before .match .keys4) (c .before .before .before .pre .0), c .before .before .before .pre .1))
-    (λ c κs. omega (arith, subst (λ j. c .before .before .before .args .base + slots (itemAt j) ≤ 77) (c .before .match .keys5) (c .before .before .before .pre .0)))
-    (λ c κs. omega (arith, subst (λ j. c .before .before .before .args .base + slots (itemAt j) ≤ 77) (c .before .match .keys6) (c .before .before .before .pre .0)))
-    (λ c κs. omega (arith, subst (λ j. c .before .before .before .args .base + slots (itemAt j) ≤ 77) (c .before .match .keys7) (c .before .before .before .pre .0)))
-    (λ c κs. omega (arith, subst (λ j. c .before .before .before .args .base + slots (itemAt j) ≤ 77) (c .before .match .keys8) (c .before .before .before .pre .0)))
-    (λ c κs. omega (arith, subst (λ j. c .before .before .before .args .base + slots (itemAt j) ≤ 77) (c .before .match .keys9) (c .before .before .before .pre .0)))
-    (λ c κs. (omega arith, omega arith, tt, omega (arith, subst (λ j. c .before .before .before .args .base + slots (itemAt j) ≤ 77) (c .before .match .keys10) (c .before .before .before .pre .0)), chain-ready 29 1 (now (c .before .before .before .args .s)) (c .before .before .before .args .at) (c .before .before .before .args .base) (now (c .before .before .before .args .numbers)) refl (c .before .before .before .pre .1)))
-    (λ c κs. (omega arith, omega arith, tt, omega (arith, subst (λ j. c .before .before .before .args .base + slots (itemAt j) ≤ 77) (c .before .match .keys11) (c .before .before .before .pre .0)), chain-ready 31 5 (now (c .before .before .before .args .s)) (c .before .before .before .args .at) (c .before .before .before .args .base) (now (c .before .before .before .args .numbers)) refl (c .before .before .before .pre .1)))
-    (λ c κs. omega (arith, subst (λ j. c .before .before .before .args .base + slots (itemAt j) ≤ 77) (c .before .match .keys12) (c .before .before .before .pre .0)))
-    (λ c κs. (subst (λ j. c .before .before .before .args .base + slots (itemAt j) ≤ 77) (c .before .match .keys13) (c .before .before .before .pre .0), c .before .before .before .pre .1))
-    (λ c κs. omega (arith, subst (λ j. c .before .before .before .args .base + slots (itemAt j) ≤ 77) (c .before .match .keys14) (c .before .before .before .pre .0)))
+    (λ c κs. (subst (λ j. c .before .before .before .args .base + slots (itemAt j) ≤ SLOTS) (c .before .match .keys1) (c .before .before .before .pre .0), c .before .before .before .pre .1))
+    (λ c κs. (subst (λ j. c .before .before .before .args .base + slots (itemAt j) ≤ SLOTS) (c .before .match .keys2) (c .before .before .before .pre .0), c .before .before .before .pre .1))
+    (λ c κs. (omega arith, omega arith, tt, omega (arith, subst (λ j. c .before .before .before .args .base + slots (itemAt j) ≤ SLOTS) (c .before .match .keys3) (c .before .before .before .pre .0)), chain-ready 18 0 (now (c .before .before .before .args .s)) (c .before .before .before .args .at) (c .before .before .before .args .base) (now (c .before .before .before .args .numbers)) refl (c .before .before .before .pre .1)))
+    (λ c κs. (subst (λ j. c .before .before .before .args .base + slots (itemAt j) ≤ SLOTS) (c .before .match .keys4) (c .before .before .before .pre .0), c .before .before .before .pre .1))
+    (λ c κs. omega (arith, subst (λ j. c .before .before .before .args .base + slots (itemAt j) ≤ SLOTS) (c .before .match .keys5) (c .before .before .before .pre .0)))
+    (λ c κs. omega (arith, subst (λ j. c .before .before .before .args .base + slots (itemAt j) ≤ SLOTS) (c .before .match .keys6) (c .before .before .before .pre .0)))
+    (λ c κs. omega (arith, subst (λ j. c .before .before .before .args .base + slots (itemAt j) ≤ SLOTS) (c .before .match .keys7) (c .before .before .before .pre .0)))
+    (λ c κs. omega (arith, subst (λ j. c .before .before .before .args .base + slots (itemAt j) ≤ SLOTS) (c .before .match .keys8) (c .before .before .before .pre .0)))
+    (λ c κs. omega (arith, subst (λ j. c .before .before .before .args .base + slots (itemAt j) ≤ SLOTS) (c .before .match .keys9) (c .before .before .before .pre .0)))
+    (λ c κs. (omega arith, omega arith, tt, omega (arith, subst (λ j. c .before .before .before .args .base + slots (itemAt j) ≤ SLOTS) (c .before .match .keys10) (c .before .before .before .pre .0)), chain-ready 29 1 (now (c .before .before .before .args .s)) (c .before .before .before .args .at) (c .before .before .before .args .base) (now (c .before .before .before .args .numbers)) refl (c .before .before .before .pre .1)))
+    (λ c κs. (omega arith, omega arith, tt, omega (arith, subst (λ j. c .before .before .before .args .base + slots (itemAt j) ≤ SLOTS) (c .before .match .keys11) (c .before .before .before .pre .0)), chain-ready 31 5 (now (c .before .before .before .args .s)) (c .before .before .before .args .at) (c .before .before .before .args .base) (now (c .before .before .before .args .numbers)) refl (c .before .before .before .pre .1)))
+    (λ c κs. omega (arith, subst (λ j. c .before .before .before .args .base + slots (itemAt j) ≤ SLOTS) (c .before .match .keys12) (c .before .before .before .pre .0)))
+    (λ c κs. (subst (λ j. c .before .before .before .args .base + slots (itemAt j) ≤ SLOTS) (c .before .match .keys13) (c .before .before .before .pre .0), c .before .before .before .pre .1))
+    (λ c κs. omega (arith, subst (λ j. c .before .before .before .args .base + slots (itemAt j) ≤ SLOTS) (c .before .match .keys14) (c .before .before .before .pre .0)))
     (λ c κs. omega (arith, c .before .before .before .pre .0))
     (λ c. as-item (c .before .before .before .before .args .k) 0 (c .before .before .match .keys1) (now (c .before .before .before .before .args .s)) (c .before .before .before .before .args .at) (c .before .before .before .before .args .base) (now (c .before .before .before .before .args .numbers)) (c .md5 .ensures))
     (λ c. as-item (c .before .before .before .before .args .k) 1 (c .before .before .match .keys2) (now (c .before .before .before .before .args .s)) (c .before .before .before .before .args .at) (c .before .before .before .before .args .base) (now (c .before .before .before .before .args .numbers)) (c .m5n .ensures))

@@ -1,13 +1,12 @@
 -- `reader::items` meets its contract: one law at each way out. Assumes nothing.
-use mathlib.Core.Path.{_≡_, sym, ap, _∙_, subst}
-use native.Mathlib.Omega.{arith}
+use mathlib.Core.Path.{sym, ap, _∙_, subst}
 use borrow.Author.Needs.{needs}
 use denote.Ref.{now}
 use Prim.Native.Nat.{_≤_}
 use lib.ListN.{drop}
 use Rattle.codec.specs.Field.{flags, allZero}
 use Rattle.layout.specs.Laws.Papers.{few-items}
-use Rattle.reader.specs.Fields.{row-asks, row-of, items-spare, items-stop, items-left, items-all}
+use Rattle.reader.specs.Laws.Fields.{row-asks, row-of, items-spare, items-stop, items-left, items-all}
 use Rattle.reader.proofs.items.Statement.{statement}
 use Rattle.reader.proofs.items.Tie as tie
 

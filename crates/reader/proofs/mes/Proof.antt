@@ -9,9 +9,10 @@ use Rattle.layout.specs.Cat021.{cat021}
 use Rattle.layout.specs.Cat007.{cat007}
 use Rattle.tables.specs.Lines.{items, placedFrom, placedIn, placed, placedAt, itemAt}
 use Rattle.tables.specs.Shapes.{linesFrom, partsOk, flagsUnder, itemOf}
-use Rattle.reader.specs.Walk.{stands-same}
+use Rattle.reader.specs.Laws.Walk.{stands-same}
 use Rattle.reader.specs.Chains.{chainRoom}
-use Rattle.reader.specs.Items.{itemRun, moreFrom, item-from, chain-ready, chain-held}
+use Rattle.reader.specs.Items.{itemRun}
+use Rattle.reader.specs.Laws.Items.{moreFrom, item-from, chain-ready, chain-held}
 use Rattle.reader.proofs.mes.Statement.{statement}
 use Rattle.reader.proofs.mes.Tie as tie
 

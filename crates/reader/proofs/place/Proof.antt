@@ -4,7 +4,7 @@ use borrow.Author.Needs.{needs}
 use denote.Ref.{now}
 use Rattle.tables.specs.declared.Spot.{Spot}
 use Rattle.reader.specs.Walk.{Ready}
-use Rattle.reader.specs.Rows.{place-asks, place-there, place-not}
+use Rattle.reader.specs.Laws.Rows.{place-asks, place-there, place-not}
 use Rattle.reader.proofs.place.Statement.{statement}
 use Rattle.reader.proofs.place.Tie as tie
 

@@ -3,7 +3,7 @@ use native.Mathlib.Omega.{arith}
 use borrow.Author.Needs.{needs}
 use denote.Ref.{now}
 use Rattle.codec.specs.Field.{flags}
-use Rattle.reader.specs.Rows.{RowSoFar, row-begins, row-ends, row-ok, row-ready, row-stops, row-goes-on}
+use Rattle.reader.specs.Laws.Rows.{RowSoFar, row-begins, row-ends, row-ok, row-ready, row-stops, row-goes-on}
 use Rattle.reader.proofs.row.Statement.{statement}
 use Rattle.reader.proofs.row.Tie as tie
 use Rattle.reader.proofs.row.Reads as reads

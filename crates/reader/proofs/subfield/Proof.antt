@@ -13,8 +13,9 @@ use mir.Val.{toZ, ofZ, SFits}
 use mir.Facts.{toZ-ofZ}
 use Rattle.codec.specs.Item.{isOne}
 use Rattle.tables.specs.Lines.{lineAt, firstAt}
-use Rattle.reader.specs.Walk.{stands}
-use Rattle.reader.specs.Items.{sub-stop, sub-absent, sub-bad, sub-got}
+use Rattle.reader.specs.Laws.Walk.{stands}
+use Rattle.reader.specs.Laws.Items.{sub-stop, sub-absent, sub-bad, sub-got}
+use Rattle.layout.specs.Record.{SLOTS}
 use Rattle.reader.proofs.subfield.Statement.{statement}
 use Rattle.reader.proofs.subfield.Tie as tie
 
@@ -68,7 +69,7 @@ returns-2 c =
     let y = f .before .before in
     let s = y .before .before .before in
     let a = s .args in
-    let p : a .base + firstAt (a .b) ≤ 77 = omega (arith, s .pre .1) in
+    let p : a .base + firstAt (a .b) ≤ SLOTS = omega (arith, s .pre .1) in
     let et = told (now (a .numbers)) (a .base) (lineAt (a .b) .flag) (f .flag-of .ensures) (sfits-of (z .z .given)) (o .is-one .ensures) in
     λ l x ready h.
     sub-bad (a .b) (now (a .s)) (a .base) l ready x h (y .a .given .1) (s .pre .0) p et (i .if1 .taken) (stands (n .line .ensures .0) (n .line .ensures .1)) (c .enum-told2 .given .1)
@@ -84,7 +85,7 @@ returns-3 c =
     let y = f .before .before in
     let s = y .before .before .before in
     let a = s .args in
-    let p : a .base + firstAt (a .b) ≤ 77 = omega (arith, s .pre .1) in
+    let p : a .base + firstAt (a .b) ≤ SLOTS = omega (arith, s .pre .1) in
     let et = told (now (a .numbers)) (a .base) (lineAt (a .b) .flag) (f .flag-of .ensures) (sfits-of (z .z .given)) (o .is-one .ensures) in
     λ l x ready h.
     sub-got (a .b) (now (a .s)) (a .base) l ready x h (y .a .given .1) (s .pre .0) p et (i .if1 .taken) (stands (n .line .ensures .0) (n .line .ensures .1)) (w .n .given .1)
@@ -97,7 +98,7 @@ returns-4 c =
     let y = f .before .before in
     let s = y .before .before .before in
     let a = s .args in
-    let p : a .base + firstAt (a .b) ≤ 77 = omega (arith, s .pre .1) in
+    let p : a .base + firstAt (a .b) ≤ SLOTS = omega (arith, s .pre .1) in
     let et = told (now (a .numbers)) (a .base) (lineAt (a .b) .flag) (f .flag-of .ensures) (sfits-of (z .z .given)) (o .is-one .ensures) in
     λ l x ready h. sub-absent (a .b) (now (a .s)) (a .base) l ready x h (y .a .given .1) (s .pre .0) p et (c .if1 .left)
 

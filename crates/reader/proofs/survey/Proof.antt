@@ -2,8 +2,9 @@
 use native.Mathlib.Omega.{arith}
 use borrow.Author.Needs.{needs}
 use denote.Ref.{now}
-use Rattle.reader.specs.Whole.{ready-zeros, two-there}
-use Rattle.reader.specs.Surveys.{octets-all, survey-refused, survey-accepted}
+use Rattle.reader.specs.Laws.Whole.{ready-zeros, two-there}
+use Rattle.codec.specs.Laws.Codec.{octets-all}
+use Rattle.reader.specs.Laws.Surveys.{survey-refused, survey-accepted}
 use Rattle.reader.proofs.survey.Statement.{statement}
 use Rattle.reader.proofs.survey.Tie as tie
 

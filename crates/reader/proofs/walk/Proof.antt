@@ -1,10 +1,10 @@
 -- `reader::walk` meets its contract: one law at each way out. Assumes nothing.
-use mathlib.Core.Path.{_≡_, sym, ap, _∙_}
+use mathlib.Core.Path.{sym, _∙_}
 use native.Mathlib.Omega.{arith}
 use borrow.Author.Needs.{needs}
 use denote.Ref.{now}
 use lib.Seq.{length-take-le}
-use Rattle.reader.specs.Fields.{walk-other, walk-empty, walk-small, walk-short, walk-items}
+use Rattle.reader.specs.Laws.Fields.{walk-other, walk-empty, walk-small, walk-short, walk-items}
 use Rattle.reader.proofs.walk.Statement.{statement}
 use Rattle.reader.proofs.walk.Tie as tie
 

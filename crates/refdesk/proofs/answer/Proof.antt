@@ -3,7 +3,7 @@ use mathlib.Core.Path.{sym}
 use native.Mathlib.Omega.{arith}
 use borrow.Author.Needs.{needs}
 use lib.Seq.{length-take-le}
-use Rattle.text.specs.Typing.{types-within}
+use Rattle.text.specs.Laws.Typing.{types-within}
 use Rattle.refdesk.proofs.answer.Statement.{statement}
 use Rattle.refdesk.proofs.answer.Tie as tie
 

@@ -6,9 +6,9 @@ use denote.Ref.{now}
 use mir.Facts.{fits-of-lt}
 use Rattle.codec.specs.Field.{flags}
 use Rattle.tables.specs.declared.Spot.{Spot}
-use Rattle.text.specs.Typing.{types-as}
+use Rattle.text.specs.Laws.Typing.{types-as}
 use Rattle.sheet.specs.Items.{namedAt}
-use Rattle.sheet.specs.Rows.{names-end, names-there, names-not}
+use Rattle.sheet.specs.Laws.Rows.{names-end, names-there, names-not}
 use borrow.Fn.Kinds.{In}
 use borrow.Fn.PlainCycle.{Measures, is, falls, and}
 use Rattle.sheet.proofs.names.Reads as names
@@ -17,7 +17,7 @@ use Rattle.sheet.proofs.+names.Lts-names as names-lts
 use Rattle.layout.proofs.present.Reads as present-reads
 use Rattle.sheet.proofs.comma.Reads as comma-reads
 use Rattle.sheet.proofs.name.Reads as name-reads
-use Rattle.sheet.proofs.wide.Reads as wide-reads
+use Rattle.leaves.proofs.wide.Reads as wide-reads
 use Rattle.tables.proofs.spot_at.Reads as spot-at-reads
 use Rattle.sheet.proofs.+names.{statement}
 use Rattle.sheet.proofs.+names.Tie.{close}

@@ -5,7 +5,7 @@ use denote.Ref.{now}
 use mir.Facts.{fits-of-lt}
 use Rattle.codec.specs.Field.{flags}
 use Rattle.tables.specs.Laws.Runs.{row-first}
-use Rattle.sheet.specs.Rows.{row-end, row-on}
+use Rattle.sheet.specs.Laws.Rows.{row-end, row-on}
 use borrow.Fn.Kinds.{In}
 use borrow.Fn.PlainCycle.{Measures, is, falls, and}
 use Rattle.sheet.proofs.row.Reads as row

@@ -1,6 +1,6 @@
 -- `sheet::comma` meets its contract. Assumes nothing.
 use denote.Ref.{now}
-use Rattle.sheet.specs.Rows.{comma-none, comma-there}
+use Rattle.sheet.specs.Laws.Rows.{comma-none, comma-there}
 use Rattle.sheet.proofs.comma.Statement.{statement}
 use Rattle.sheet.proofs.comma.Tie as tie
 

@@ -6,7 +6,7 @@ use borrow.Author.Needs.{needs}
 use denote.Ref.{now}
 use Rattle.layout.specs.Names.{names048, names021, names007}
 use Rattle.sheet.specs.Items.{named, namedAt}
-use Rattle.sheet.specs.Rows.{name-arm, name-past}
+use Rattle.sheet.specs.Laws.Rows.{name-arm, name-past}
 use Rattle.sheet.proofs.name.Statement.{statement}
 use Rattle.sheet.proofs.name.Tie as tie
 

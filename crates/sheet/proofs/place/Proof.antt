@@ -1,8 +1,9 @@
 -- `sheet::place` meets its contract. Assumes nothing.
 use mathlib.Core.Path.{ap, _∙_}
+use native.Mathlib.Omega.{arith}
 use denote.Ref.{now}
 use Rattle.tables.specs.declared.Spot.{Spot}
-use Rattle.sheet.specs.Rows.{place-there, place-not}
+use Rattle.sheet.specs.Laws.Rows.{place-there, place-not}
 use Rattle.sheet.proofs.place.Statement.{statement}
 use Rattle.sheet.proofs.place.Tie as tie
 
@@ -22,4 +23,4 @@ returns-2 : tie.Need-returns-2
 returns-2 c = let a = c .before .args in place-not (a .k) (a .count) (now (a .numbers)) (c .if1 .left) (now (a .buf)) (a .at)
 
 pub place-spec : {M : Type 1} → statement M
-place-spec = tie.close (tie.spec (λ c κs. tt) (λ c κs. tt) (λ c κs. tt) (λ c κs. tt) (λ c κs. c .before .wide3 .ensures .1) returns returns-2)
+place-spec = tie.close (tie.spec (λ c κs. tt) (λ c κs. tt) (λ c κs. tt) (λ c κs. tt) (λ c κs. omega (arith, c .before .wide3 .ensures .1)) returns returns-2)

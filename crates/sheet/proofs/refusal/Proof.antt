@@ -1,6 +1,6 @@
 -- `sheet::refusal` meets its contract. Assumes nothing.
 use borrow.Author.Needs.{needs}
-use Rattle.sheet.specs.Whole.{refusal-typed}
+use Rattle.sheet.specs.Laws.Whole.{refusal-typed}
 use Rattle.sheet.proofs.refusal.Statement.{statement}
 use Rattle.sheet.proofs.refusal.Tie as tie
 

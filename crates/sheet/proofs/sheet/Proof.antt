@@ -6,10 +6,9 @@ use borrow.Author.Needs.{needs}
 use denote.Ref.{now}
 use lib.ListN.{length, length-replicate}
 use Rattle.scope.specs.Sheet.{sheetOf}
-use Rattle.scope.specs.Writing.{withRoom}
-use Rattle.promises.specs.Outputs.{Leaves}
-use Rattle.reader.specs.Surveys.{octets-all}
-use Rattle.sheet.specs.Whole.{Standing, sheet-stands}
+use Rattle.scope.specs.Outputs.{withRoom, Leaves}
+use Rattle.codec.specs.Laws.Codec.{octets-all}
+use Rattle.sheet.specs.Laws.Whole.{Standing, sheet-stands}
 use Rattle.sheet.proofs.sheet.Statement.{statement}
 use Rattle.sheet.proofs.sheet.Tie as tie
 

@@ -6,9 +6,8 @@ use borrow.Author.Needs.{needs}
 use denote.Ref.{now}
 use lib.ListN.{length, getD, take, drop}
 use Rattle.codec.specs.Codec.{Octets}
-use Rattle.codec.specs.Laws.Codec.{octets-drop, octets-take}
-use Rattle.reader.specs.Surveys.{octets-all}
-use Rattle.sheet.specs.Whole.{read-asks, sheet-empty, sheet-parts, sheet-accepted, sheet-refused}
+use Rattle.codec.specs.Laws.Codec.{octets-drop, octets-take, octets-all}
+use Rattle.sheet.specs.Laws.Whole.{read-asks, sheet-empty, sheet-parts, sheet-accepted, sheet-refused}
 use Rattle.sheet.proofs.typed.Statement.{statement}
 use Rattle.sheet.proofs.typed.Tie as tie
 

@@ -2,7 +2,8 @@
 use mathlib.Core.Path.{_≡_, refl, sym, ap, _∙_}
 use mathlib.Core.Bool.{Bool, true, _&&_}
 use mathlib.Core.List.{List, [], _∷_, map}
-use Prim.Native.Nat.{ℕ, zero, suc, _+_, _≤_}
+use Prim.Native.Nat.{ℕ, zero, suc, _+_, _≤_, _<_}
+use native.Mathlib.Nat.{le-of-suc-le-suc, not-suc-le-zero}
 use lib.Dec.{T, leb, leb→le}
 use lib.ListN.{length, getD, List·getD-map, List·getD-eq-default}
 use Rattle.codec.specs.Radix.{total}
@@ -12,7 +13,7 @@ use Rattle.codec.specs.Laws.Tests.{and-l, and-r}
 use Rattle.layout.specs.Cat048.{cat048}
 use Rattle.layout.specs.Cat021.{cat021}
 use Rattle.layout.specs.Cat007.{cat007}
-use Rattle.tables.specs.Lines.{items, noLine, placedFrom, placedIn, placed, placedAt, lineAt, firstAt, kindCode, codeOf, kindOf, pieceOf, piecesFrom, narrow, itemAt}
+use Rattle.tables.specs.Lines.{items, noLine, placedFrom, placedIn, placed, placedAt, lineAt, firstAt, kindCode, codeOf, kindOf, pieceOf, piecesFrom, narrow, itemAt, spareMask, maskOf, lengthOf, takenOf, lengths, pieces}
 
 abbrev pub every : {A : Type 0} → (A → Bool) → List A → Bool
 every f [] = true
@@ -66,6 +67,21 @@ pieces-right b =
     sym (List·getD-map (λ (p : Line × ℕ). piecesFrom (length (p .0 .pieces)) (codeOf (p .0 .pieces))) placed b (noLine, 0))
     ∙ ap (λ l. getD l b []) pieces-all
     ∙ List·getD-map (λ (p : Line × ℕ). p .0 .pieces) placed b (noLine, 0)
+
+-- within a list, what stands at a place does not depend on what is behind its end
+pub within : {A : Type 0} (xs : List A) (d e : A) (i : ℕ) → i < length xs → getD xs i d ≡ getD xs i e
+within [] d e i h = absurd (not-suc-le-zero h)
+within (x ∷ xs) d e zero h = refl
+within (x ∷ xs) d e (suc i) h = within xs d e i (le-of-suc-le-suc h)
+
+-- the tables have a line's columns at the line's place
+pub lengths-at : (b : ℕ) → getD lengths b (0, 0) ≡ lengthOf (placedAt b)
+unfolding lengths placedAt spareMask maskOf
+lengths-at b = List·getD-map lengthOf placed b (noLine, 0)
+
+pub pieces-at : (b : ℕ) → getD pieces b (0, 0, 0, 0, 0) ≡ takenOf (placedAt b)
+unfolding pieces placedAt codeOf
+pieces-at b = List·getD-map takenOf placed b (noLine, 0)
 
 pub past-lines : (b : ℕ) → 46 ≤ b → placedAt b ≡ (noLine, 0)
 unfolding placedAt placed placedIn placedFrom linesOf items cat048 cat021 cat007

@@ -15,9 +15,9 @@ use Rattle.layout.specs.Cat048.{cat048}
 use Rattle.layout.specs.Cat021.{cat021}
 use Rattle.layout.specs.Cat007.{cat007}
 use Rattle.tables.specs.declared.Shape.{Shape}
-use Rattle.tables.specs.Lines.{items, noLine, placedFrom, placedIn, placed, placedAt, lineAt, firstAt, itemAt}
+use Rattle.tables.specs.Lines.{NO_LINE, items, noLine, placedFrom, placedIn, placed, placedAt, lineAt, firstAt, itemAt}
 use Rattle.tables.specs.Shapes.{linesFrom, flagsUnder, itemOf, shapeOf, shapesFrom, shapes, shapeAt, inTurn}
-use Rattle.tables.specs.Laws.Lines.{every, every-at}
+use Rattle.tables.specs.Laws.Lines.{every-at}
 
 -- ---- an item is what its shape says
 
@@ -32,14 +32,14 @@ items-shaped : map shaped shapes ≡ items
 unfolding shapes shapesFrom shapeOf itemOf linesFrom placedAt placed placedIn placedFrom linesOf items cat048 cat021 cat007
 items-shaped = refl
 
-none-shaped : shaped (46, 0, 0) ≡ single noLine
+none-shaped : shaped (NO_LINE, 0, 0) ≡ single noLine
 unfolding placedAt placed placedIn placedFrom linesOf items cat048 cat021 cat007
 none-shaped = refl
 
 shape-right : (k : ℕ) → shaped (shapeAt k) ≡ itemAt k
 unfolding shapeAt itemAt
 shape-right k =
-    sym (List·getD-map shaped shapes k (46, 0, 0)) ∙ ap (λ l. getD l k (shaped (46, 0, 0))) items-shaped ∙ ap (getD items k) none-shaped
+    sym (List·getD-map shaped shapes k (NO_LINE, 0, 0)) ∙ ap (λ l. getD l k (shaped (NO_LINE, 0, 0))) items-shaped ∙ ap (getD items k) none-shaped
 
 module _ (k : ℕ) {s : Shape} (es : s ≡ shapeAt k) where
   pub shape-single : s .1 ≡ 0 → itemAt k ≡ single (lineAt (s .0))
@@ -57,7 +57,7 @@ module _ (k : ℕ) {s : Shape} (es : s ≡ shapeAt k) where
 
 abbrev okay : ℕ → ℕ → ℕ → Bool
 okay b p n =
-    leb (b + p + n) 46
+    leb (b + p + n) NO_LINE
     && (eqb (firstAt b) 0
     && (inTurn b p && (inTurn (b + p) n && (flagsUnder (slotsOf (linesFrom b p)) (linesFrom (b + p) n) && pick (eqb n 0) true (eqb (firstAt (b + p)) (slotsOf (linesFrom b p)))))))
 
@@ -66,10 +66,10 @@ shapeOk s = okay (s .0) (s .1) (s .2)
 
 shapes-ok : (k : ℕ) → T (shapeOk (shapeAt k))
 unfolding shapeAt shapes shapesFrom shapeOf inTurn flagsUnder linesFrom slotsOf count placedAt placed placedIn placedFrom linesOf items cat048 cat021 cat007
-shapes-ok k = every-at shapeOk shapes (46, 0, 0) tt tt k
+shapes-ok k = every-at shapeOk shapes (NO_LINE, 0, 0) tt tt k
 
 pub record Shaped (s : Shape) : Type 0 where
-  pub few : s .0 + s .1 + s .2 ≤ 46
+  pub few : s .0 + s .1 + s .2 ≤ NO_LINE
   pub begins : firstAt (s .0) ≡ 0
   pub parts-turn : T (inTurn (s .0) (s .1))
   pub subfields-turn : T (inTurn (s .0 + s .1) (s .2))
@@ -83,11 +83,11 @@ shaped-well k {s} es =
     let n : ℕ = s .2 in
     let c : List Line = linesFrom b p in
     let t1 : T (shapeOk s) = subst (λ x. T (shapeOk x)) (sym es) (shapes-ok k) in
-    let t2 = and-r (leb (b + p + n) 46) _ t1 in
+    let t2 = and-r (leb (b + p + n) NO_LINE) _ t1 in
     let t3 = and-r (eqb (firstAt b) 0) _ t2 in
     let t4 = and-r (inTurn b p) _ t3 in
     let t5 = and-r (inTurn (b + p) n) _ t4 in record {
-      few = leb→le (b + p + n) 46 (and-l (leb (b + p + n) 46) _ t1);
+      few = leb→le (b + p + n) NO_LINE (and-l (leb (b + p + n) NO_LINE) _ t1);
       begins = eqb→eq (firstAt b) 0 (and-l (eqb (firstAt b) 0) _ t2);
       parts-turn = and-l (inTurn b p) _ t3;
       subfields-turn = and-l (inTurn (b + p) n) _ t4;

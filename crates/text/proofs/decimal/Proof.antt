@@ -1,5 +1,5 @@
 -- `text::decimal` meets its contract: twenty digits are enough. Assumes nothing.
-use Rattle.text.specs.Typing.{types-decimal}
+use Rattle.text.specs.Laws.Typing.{types-decimal}
 use Rattle.text.proofs.decimal.Statement.{statement}
 use Rattle.text.proofs.decimal.Tie as tie
 

@@ -1,6 +1,6 @@
 -- `text::hex_digit` meets its contract: one law at each way out. Assumes nothing.
 use borrow.Author.Needs.{needs}
-use Rattle.text.specs.Hex.{capital-number, capital-letter}
+use Rattle.text.specs.Laws.Hex.{capital-number, capital-letter}
 use Rattle.text.proofs.hex_digit.Statement.{statement}
 use Rattle.text.proofs.hex_digit.Tie as tie
 

@@ -1,6 +1,6 @@
 -- `text::hex_pair` meets its contract: one digit behind the other. Assumes nothing.
 use borrow.Author.Needs.{needs}
-use Rattle.text.specs.Hex.{types-pair}
+use Rattle.text.specs.Laws.Hex.{types-pair}
 use Rattle.text.proofs.hex_pair.Statement.{statement}
 use Rattle.text.proofs.hex_pair.Tie as tie
 

@@ -1,7 +1,7 @@
 -- `text::octet` meets its contract: one law at each way out. Assumes nothing.
 use borrow.Author.Needs.{needs}
 use denote.Ref.{now}
-use Rattle.text.specs.Typing.{octet-there, octet-full}
+use Rattle.text.specs.Laws.Typing.{octet-there, octet-full}
 use Rattle.text.proofs.octet.Statement.{statement}
 use Rattle.text.proofs.octet.Tie as tie
 

@@ -4,7 +4,8 @@ use native.Mathlib.Omega.{arith}
 use denote.Ref.{now}
 use lib.ListN.{length, take}
 use Rattle.text.specs.Typing.{Types}
-use Rattle.text.specs.Hex.{pairsText, no-pairs, pairs-more, hex-none, hex-whole}
+use Rattle.text.specs.Hex.{pairsText}
+use Rattle.text.specs.Laws.Hex.{no-pairs, pairs-more, hex-none, hex-whole}
 use Rattle.text.proofs.octets.Statement.{statement}
 use Rattle.text.proofs.octets.Tie as tie
 

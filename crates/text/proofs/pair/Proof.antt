@@ -1,7 +1,7 @@
 -- `text::pair` meets its contract: key, =, number and line feed stand one behind the other. Assumes nothing.
 use denote.Ref.{now}
 use Rattle.scope.specs.Sheet.{decimal}
-use Rattle.text.specs.Typing.{types-line}
+use Rattle.text.specs.Laws.Typing.{types-line}
 use Rattle.text.proofs.pair.Statement.{statement}
 use Rattle.text.proofs.pair.Tie as tie
 

@@ -11,7 +11,7 @@ use mir.Syntax.{w64}
 use mir.Val.{SFits, toZ, ofZ}
 use mir.ValLaws.{toZ-pos}
 use mir.Facts.{toZ-ofZ, fits-natAbs}
-use Rattle.text.specs.Typing.{signed-below, signed-above}
+use Rattle.text.specs.Laws.Typing.{signed-below, signed-above}
 use Rattle.text.proofs.signed.Statement.{statement}
 use Rattle.text.proofs.signed.Tie as tie
 

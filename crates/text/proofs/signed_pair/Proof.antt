@@ -2,7 +2,7 @@
 use denote.Ref.{now}
 use mir.Facts.{toZ-ofZ}
 use Rattle.scope.specs.Sheet.{signedDecimal}
-use Rattle.text.specs.Typing.{types-line}
+use Rattle.text.specs.Laws.Typing.{types-line}
 use Rattle.text.proofs.signed_pair.Statement.{statement}
 use Rattle.text.proofs.signed_pair.Tie as tie
 

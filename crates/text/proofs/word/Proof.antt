@@ -3,7 +3,8 @@ use Prim.Native.Nat.{_-_, _≤_}
 use native.Mathlib.Omega.{arith}
 use denote.Ref.{now}
 use lib.ListN.{length, take}
-use Rattle.text.specs.Typing.{Types, types-none, word-more, word-whole}
+use Rattle.text.specs.Typing.{Types}
+use Rattle.text.specs.Laws.Typing.{types-none, word-more, word-whole}
 use Rattle.text.proofs.word.Statement.{statement}
 use Rattle.text.proofs.word.Tie as tie
 

@@ -2,9 +2,10 @@
 use mathlib.Core.Path.{_∙_}
 use native.Mathlib.Omega.{arith}
 use borrow.Author.Needs.{needs}
-use denote.Ref.{now}
-use Rattle.reader.specs.Surveys.{octets-all}
-use Rattle.views.specs.Choosing.{base-within, correction-within, part-neither, part-base, part-correction}
+use denote.Ref.{now, ptr}
+use Rattle.codec.specs.Laws.Codec.{octets-all}
+use Rattle.views.specs.Laws.Choosing.{base-within, correction-within, part-neither, part-base, part-correction}
+use Rattle.views.specs.Laws.Parts.{at-neither, at-base, at-correction}
 use Rattle.views.proofs.choose.Statement.{statement}
 use Rattle.views.proofs.choose.Tie as tie
 
@@ -26,22 +27,30 @@ returns : tie.Need-returns
 returns c =
     let t = c .before in
     let x = t .before .before in
-    let a = x .before .before .before .args in
-    part-neither (a .cat) (now (a .base)) (now (a .correction)) (a .item) (x .choose-answer .ensures) (t .enum-told .given .1)
+    let a = x .before .before .before .args in (
+      part-neither (a .cat) (now (a .base)) (now (a .correction)) (a .item) (x .choose-answer .ensures) (t .enum-told .given .1),
+      at-neither (ptr (a .base)) (ptr (a .correction)) (x .choose-answer .ensures) (t .enum-told .given .1),
+    )
 
 returns-2 : tie.Need-returns-2
 returns-2 c =
     let t = c .before in
     let x = t .before .before in
     let a = x .before .before .before .args in
-    c .part .ensures ∙ part-base (a .cat) (now (a .base)) (now (a .correction)) (a .item) (x .choose-answer .ensures) (t .enum-told2 .given .1)
+    let p = c .part .ensures in (
+      p .0 ∙ part-base (a .cat) (now (a .base)) (now (a .correction)) (a .item) (x .choose-answer .ensures) (t .enum-told2 .given .1),
+      p .1 ∙ at-base (ptr (a .base)) (ptr (a .correction)) (x .choose-answer .ensures) (t .enum-told2 .given .1),
+    )
 
 returns-3 : tie.Need-returns-3
 returns-3 c =
     let t = c .before in
     let x = t .before .before in
     let a = x .before .before .before .args in
-    c .part2 .ensures ∙ part-correction (a .cat) (now (a .base)) (now (a .correction)) (a .item) (x .choose-answer .ensures) (t .enum-told3 .given .1)
+    let p = c .part2 .ensures in (
+      p .0 ∙ part-correction (a .cat) (now (a .base)) (now (a .correction)) (a .item) (x .choose-answer .ensures) (t .enum-told3 .given .1),
+      p .1 ∙ at-correction (ptr (a .base)) (ptr (a .correction)) (x .choose-answer .ensures) (t .enum-told3 .given .1),
+    )
 
 pub choose-spec : {M : Type 1} → statement M
 choose-spec =

@@ -7,8 +7,9 @@ use Rattle.layout.specs.declared.Which.{Which}
 use Rattle.layout.specs.declared.Which.the-variants.{Base, Correction}
 use Rattle.layout.specs.declared.Choice.{Choice}
 use Rattle.views.specs.Standing.{asView}
-use Rattle.views.specs.Surveyed.{view-rising, view-stands}
-use Rattle.views.specs.Choosing.{chosenView, choose-unknown, choose-base, choose-correction, choose-both}
+use Rattle.views.specs.Laws.Surveyed.{view-rising, view-stands}
+use Rattle.views.specs.Choosing.{chosenView}
+use Rattle.views.specs.Laws.Choosing.{choose-unknown, choose-base, choose-correction, choose-both}
 use Rattle.views.proofs.choose_answer.Statement.{statement}
 use Rattle.views.proofs.choose_answer.Tie as tie
 

@@ -1,6 +1,6 @@
 -- `views::chosen` meets its contract: one law at each way out. Assumes nothing.
 use borrow.Author.Needs.{needs}
-use Rattle.views.specs.Choosing.{chosen-correction, chosen-base, chosen-neither}
+use Rattle.views.specs.Laws.Choosing.{chosen-correction, chosen-base, chosen-neither}
 use Rattle.views.proofs.chosen.Statement.{statement}
 use Rattle.views.proofs.chosen.Tie as tie
 

@@ -3,9 +3,10 @@ use mathlib.Core.Path.{_≡_, sym, ap, _∙_}
 use Prim.Native.Nat.{ℕ, _+_, _-_}
 use native.Mathlib.Omega.{arith}
 use borrow.Author.Needs.{needs}
-use denote.Ref.{now}
+use denote.Ref.{now, ptr}
 use lib.ListN.{take, drop}
 use Rattle.scope.specs.Views.{partOf}
+use Rattle.views.specs.Parts.{partAt}
 use Rattle.views.proofs.part.Statement.{statement}
 use Rattle.views.proofs.part.Tie as tie
 
@@ -13,10 +14,11 @@ back : (a m : ℕ) → a + m - a ≡ m
 back a m = omega arith
 
 returns : tie.Need-returns
-unfolding partOf
+unfolding partOf partAt
 returns c =
     let t = c .before in
-    sym (ap (partOf (now (t .before .before .args .field))) (t .enum-told .given .1))
+    let f = t .before .before .args .field in
+    (sym (ap (partOf (now f)) (t .enum-told .given .1)), sym (ap (partAt (ptr f)) (t .enum-told .given .1)))
 
 add-result : tie.Need-add-result
 add-result c =
@@ -31,12 +33,14 @@ part-result-end c =
     omega (arith, h)
 
 returns-2 : tie.Need-returns-2
-unfolding partOf
+unfolding partOf partAt
 returns-2 c =
     let v = c .before .before in
-    let s = v .before .before in
-    ap (λ k. take k (drop (v .v .given .0 .0) (now (s .args .field)))) (back (v .v .given .0 .0) (v .v .given .0 .1 .0))
-    ∙ sym (ap (partOf (now (s .args .field))) (v .v .given .1))
+    let s = v .before .before in (
+      ap (λ k. take k (drop (v .v .given .0 .0) (now (s .args .field)))) (back (v .v .given .0 .0) (v .v .given .0 .1 .0))
+          ∙ sym (ap (partOf (now (s .args .field))) (v .v .given .1)),
+      sym (ap (partAt (ptr (s .args .field))) (v .v .given .1)),
+    )
 
 pub part-spec : {M : Type 1} → statement M
 part-spec = tie.close (tie.spec (λ c. search needs) (λ c. search needs) (λ c. search needs) returns add-result (λ c. search needs) (λ c. search needs) part-result-end returns-2)

@@ -2,10 +2,11 @@
 use mathlib.Core.Path.{sym, ap, _∙_}
 use native.Mathlib.Omega.{arith}
 use borrow.Author.Needs.{needs}
-use denote.Ref.{now}
+use denote.Ref.{now, ptr}
 use Rattle.scope.specs.Views.{partOf}
-use Rattle.reader.specs.Surveys.{octets-all}
-use Rattle.views.specs.Surveyed.{view-within}
+use Rattle.codec.specs.Laws.Codec.{octets-all}
+use Rattle.views.specs.Laws.Surveyed.{view-within}
+use Rattle.views.specs.Parts.{partAt}
 use Rattle.views.proofs.view.Statement.{statement}
 use Rattle.views.proofs.view.Tie as tie
 
@@ -20,7 +21,8 @@ returns : tie.Need-returns
 returns c =
     let v = c .before in
     let a = v .before .before .args in
-    c .part .ensures ∙ ap (partOf (now (a .field))) (v .view-answer .ensures)
+    let p = c .part .ensures in
+    (p .0 ∙ ap (partOf (now (a .field))) (v .view-answer .ensures), p .1 ∙ ap (partAt (ptr (a .field))) (v .view-answer .ensures))
 
 pub view-spec : {M : Type 1} → statement M
 view-spec = tie.close (tie.spec (λ c κs. search needs) part-requires returns)

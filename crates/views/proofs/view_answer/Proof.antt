@@ -3,7 +3,7 @@ use mathlib.Core.Path.{ap, _∙_}
 use borrow.Author.Needs.{needs}
 use denote.Ref.{now}
 use Rattle.views.specs.Standing.{asView}
-use Rattle.views.specs.Surveyed.{view-refused, view-rising, view-stands}
+use Rattle.views.specs.Laws.Surveyed.{view-refused, view-rising, view-stands}
 use Rattle.views.proofs.view_answer.Statement.{statement}
 use Rattle.views.proofs.view_answer.Tie as tie
 

@@ -2,7 +2,7 @@
 use Prim.Native.Nat.{ℕ, _<_}
 use native.Mathlib.Omega.{arith}
 use denote.Ref.{now}
-use Rattle.words.specs.Lines.{behind-none, behind-more}
+use Rattle.words.specs.Laws.Lines.{behind-none, behind-more}
 use borrow.Fn.Kinds.{In}
 use borrow.Fn.PlainCycle.{Measures, is, falls, and}
 use Rattle.words.proofs.behind_all.Reads as behind-all

@@ -1,8 +1,7 @@
 -- `words::after` meets its contract: what follows the word begins where it ends. Assumes nothing.
-use native.Mathlib.Omega.{arith}
 use borrow.Author.Needs.{needs}
 use denote.Ref.{now}
-use Rattle.words.specs.Lines.{end-within, after-word}
+use Rattle.words.specs.Laws.Lines.{end-within, after-word}
 use Rattle.words.proofs.after.Statement.{statement}
 use Rattle.words.proofs.after.Tie as tie
 

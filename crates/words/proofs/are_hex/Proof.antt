@@ -4,7 +4,8 @@ use Prim.Native.Nat.{_-_}
 use native.Mathlib.Omega.{arith}
 use denote.Ref.{now}
 use lib.ListN.{length, drop}
-use Rattle.words.specs.Octets.{areHex, hex-other, hex-more, hex-end}
+use Rattle.words.specs.Octets.{areHex}
+use Rattle.words.specs.Laws.Octets.{hex-other, hex-more, hex-end}
 use Rattle.words.proofs.are_hex.Statement.{statement}
 use Rattle.words.proofs.are_hex.Tie as tie
 

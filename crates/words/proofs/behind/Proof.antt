@@ -1,6 +1,6 @@
 -- `words::behind` meets its contract, which is that of `after` behind the space. Assumes nothing.
 use denote.Ref.{now}
-use Rattle.words.specs.Lines.{behind-of}
+use Rattle.words.specs.Laws.Lines.{behind-of}
 use Rattle.words.proofs.behind.Statement.{statement}
 use Rattle.words.proofs.behind.Tie as tie
 

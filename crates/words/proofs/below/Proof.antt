@@ -1,13 +1,13 @@
 -- `words::below` meets its contract: a magnitude of 32 bits is far from the ends of 64. Assumes nothing.
-use mathlib.Core.Path.{_≡_, refl, ap, sym, _∙_}
+use mathlib.Core.Path.{_≡_, refl, ap, _∙_}
 use Prim.Native.Nat.{ℕ, zero, suc, _-_, _≤_}
 use native.Mathlib.Omega.{arith}
 use borrow.Author.Needs.{needs}
-use lib.IntN.{ℤ, pos, negsuc, _-ℤ_, +ℤ-idl}
+use lib.IntN.{pos, negsuc, _-ℤ_, +ℤ-idl}
 use mir.Syntax.{w64}
-use mir.Val.{SFits, toZ, ofZ}
+use mir.Val.{SFits, toZ}
 use mir.Facts.{toZ-ofZ, toZ-pos}
-use Rattle.words.specs.Numbers.{below-none, below-more, below-some}
+use Rattle.words.specs.Laws.Numbers.{below-none, below-more, below-some}
 use Rattle.words.proofs.below.Statement.{statement}
 use Rattle.words.proofs.below.Tie as tie
 

@@ -4,7 +4,8 @@ use Prim.Native.Nat.{_+_, _-_}
 use native.Mathlib.Omega.{arith}
 use denote.Ref.{now}
 use lib.ListN.{length, drop}
-use Rattle.words.specs.Lines.{wordLength, at-space, at-other, at-end}
+use Rattle.words.specs.Lines.{wordLength}
+use Rattle.words.specs.Laws.Lines.{at-space, at-other, at-end}
 use Rattle.words.proofs.end.Statement.{statement}
 use Rattle.words.proofs.end.Tie as tie
 

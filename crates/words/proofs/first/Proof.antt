@@ -1,6 +1,6 @@
 -- `words::first` meets its contract, which is that of `word` behind the space. Assumes nothing.
 use denote.Ref.{now}
-use Rattle.words.specs.Lines.{first-of}
+use Rattle.words.specs.Laws.Lines.{first-of}
 use Rattle.words.proofs.first.Statement.{statement}
 use Rattle.words.proofs.first.Tie as tie
 

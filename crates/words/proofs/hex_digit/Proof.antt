@@ -1,7 +1,7 @@
 -- `words::hex_digit` meets its contract: one law at each way out. Assumes nothing.
 use native.Mathlib.Omega.{arith}
 use borrow.Author.Needs.{needs}
-use Rattle.words.specs.Octets.{hex-number, hex-capital, hex-small, hex-before, hex-second, hex-third, hex-behind}
+use Rattle.words.specs.Laws.Octets.{hex-number, hex-capital, hex-small, hex-before, hex-second, hex-third, hex-behind}
 use Rattle.words.proofs.hex_digit.Statement.{statement}
 use Rattle.words.proofs.hex_digit.Tie as tie
 

@@ -1,7 +1,7 @@
 -- `words::inside` meets its contract. Assumes nothing.
 use borrow.Author.Needs.{needs}
 use denote.Ref.{now}
-use Rattle.words.specs.Lines.{inside-none, inside-some}
+use Rattle.words.specs.Laws.Lines.{inside-none, inside-some}
 use Rattle.words.proofs.inside.Statement.{statement}
 use Rattle.words.proofs.inside.Tie as tie
 

@@ -1,5 +1,5 @@
 -- `words::is_digit` meets its contract: 48 to 57. Assumes nothing.
-use Rattle.words.specs.Numbers.{digit-below, digit-from}
+use Rattle.words.specs.Laws.Numbers.{digit-below, digit-from}
 use Rattle.words.proofs.is_digit.Statement.{statement}
 use Rattle.words.proofs.is_digit.Tie as tie
 

@@ -3,7 +3,7 @@ use mathlib.Core.Path.{_∙_}
 use native.Mathlib.Omega.{arith}
 use borrow.Author.Needs.{needs}
 use denote.Ref.{now}
-use Rattle.words.specs.Octets.{octets-sign, octets-empty, octets-long, octets-odd, octets-even}
+use Rattle.words.specs.Laws.Octets.{octets-sign, octets-empty, octets-long, octets-odd, octets-even}
 use Rattle.words.proofs.is_octets.Statement.{statement}
 use Rattle.words.proofs.is_octets.Tie as tie
 

@@ -1,10 +1,11 @@
 -- `words::is_same` meets its contract: what is left of both words is the same exactly if they are. Assumes nothing.
 use mathlib.Core.Path.{_≡_, refl, sym, _∙_}
-use Prim.Native.Nat.{_-_, _≤_}
+use Prim.Native.Nat.{_-_}
 use native.Mathlib.Omega.{arith}
 use denote.Ref.{now}
 use lib.ListN.{length, drop}
-use Rattle.words.specs.Lines.{same, same-longer, same-other, same-more, same-end}
+use Rattle.words.specs.Lines.{same}
+use Rattle.words.specs.Laws.Lines.{same-longer, same-other, same-more, same-end}
 use Rattle.words.proofs.is_same.Statement.{statement}
 use Rattle.words.proofs.is_same.Tie as tie
 

@@ -5,7 +5,8 @@ use native.Mathlib.Omega.{arith}
 use denote.Ref.{now}
 use lib.ListN.{length, drop}
 use lib.Seq.{sets}
-use Rattle.words.specs.Octets.{octetsOf, lay-end, lay-more}
+use Rattle.words.specs.Octets.{octetsOf}
+use Rattle.words.specs.Laws.Octets.{lay-end, lay-more}
 use Rattle.words.proofs.lay.Statement.{statement}
 use Rattle.words.proofs.lay.Tie as tie
 

@@ -3,7 +3,7 @@ use mathlib.Core.Path.{sym}
 use native.Mathlib.Omega.{arith}
 use borrow.Author.Needs.{needs}
 use denote.Ref.{now}
-use Rattle.words.specs.Numbers.{leads-none, leads-one, leads-several}
+use Rattle.words.specs.Laws.Numbers.{leads-none, leads-one, leads-several}
 use Rattle.words.proofs.leads_well.Statement.{statement}
 use Rattle.words.proofs.leads_well.Tie as tie
 

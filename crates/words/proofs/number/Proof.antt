@@ -1,13 +1,14 @@
 -- `words::number` meets its contract: the digits passed say v, and from each place that the loop reaches the answer is the same. Assumes nothing.
 use mathlib.Core.Path.{_≡_, refl, sym, ap, _∙_}
-use mathlib.Core.Bool.{true, false}
-use Prim.Native.Nat.{_+_, _-_, _*_, _≤_, _<_}
+use mathlib.Core.Bool.{true}
+use Prim.Native.Nat.{_+_, _-_, _≤_, _<_}
 use native.Mathlib.Omega.{arith}
 use borrow.Author.Tests.{not-true, not-false}
 use denote.Ref.{now}
 use lib.ListN.{length, drop, getD}
 use Rattle.text.specs.Decimals.{isDigit}
-use Rattle.words.specs.Numbers.{numberIn, fromHere, here-end, here-other, here-more, here-over, not-leading, leading, digit-least}
+use Rattle.words.specs.Numbers.{numberIn}
+use Rattle.words.specs.Laws.Numbers.{fromHere, here-end, here-other, here-more, here-over, not-leading, leading, digit-least}
 use Rattle.words.proofs.number.Statement.{statement}
 use Rattle.words.proofs.number.Tie as tie
 

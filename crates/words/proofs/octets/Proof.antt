@@ -2,7 +2,7 @@
 use mathlib.Core.Path.{_∙_, sym}
 use borrow.Author.Needs.{needs}
 use denote.Ref.{now}
-use Rattle.words.specs.Octets.{octets-most, octets-there, octets-none}
+use Rattle.words.specs.Laws.Octets.{octets-most, octets-there, octets-none}
 use Rattle.words.proofs.octets.Statement.{statement}
 use Rattle.words.proofs.octets.Tie as tie
 

@@ -1,5 +1,5 @@
 -- `words::signed` meets its contract: what follows the `-` is the magnitude. Assumes nothing.
-use mathlib.Core.Path.{_≡_, ap, sym, _∙_}
+use mathlib.Core.Path.{ap, _∙_}
 use Prim.Native.Nat.{_<_}
 use native.Mathlib.Omega.{arith}
 use borrow.Author.Needs.{needs, sfits-of}
@@ -7,8 +7,9 @@ use denote.Ref.{now}
 use lib.IntN.{pos}
 use mir.Syntax.{w64}
 use mir.Facts.{toZ-ofZ, toZ-pos}
-use Rattle.words.specs.Lines.{inside-some}
-use Rattle.words.specs.Numbers.{numberIn, below, signed-none, signed-above, signed-below, number-within}
+use Rattle.words.specs.Laws.Lines.{inside-some}
+use Rattle.words.specs.Numbers.{numberIn, below}
+use Rattle.words.specs.Laws.Numbers.{signed-none, signed-above, signed-below, number-within}
 use Rattle.words.proofs.signed.Statement.{statement}
 use Rattle.words.proofs.signed.Tie as tie
 

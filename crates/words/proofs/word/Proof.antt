@@ -2,7 +2,7 @@
 use mathlib.Core.Path.{sym}
 use denote.Ref.{now}
 use lib.Seq.{length-take-le}
-use Rattle.words.specs.Lines.{end-within, word-front}
+use Rattle.words.specs.Laws.Lines.{end-within, word-front}
 use Rattle.words.proofs.word.Statement.{statement}
 use Rattle.words.proofs.word.Tie as tie
 

@@ -9,7 +9,7 @@ use mir.Facts.{fits-of-lt}
 use Rattle.tables.specs.Lines.{firstAt, countAt}
 use Rattle.tables.specs.Shapes.{inTurn}
 use Rattle.tables.specs.Laws.Runs.{turn-first, turn-rest}
-use Rattle.writer.specs.Chains.{goes, chain-last, chain-on}
+use Rattle.writer.specs.Laws.Chains.{goes, chain-last, chain-on}
 use borrow.Fn.Kinds.{In}
 use borrow.Fn.PlainCycle.{Measures, is, falls, and}
 use Rattle.writer.proofs.chain.Reads as chain

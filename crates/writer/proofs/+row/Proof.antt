@@ -8,7 +8,7 @@ use lib.ListN.{drop}
 use mir.Facts.{fits-of-lt}
 use Rattle.codec.specs.Field.{flags}
 use Rattle.tables.specs.Laws.Runs.{row-first}
-use Rattle.writer.specs.Rows.{row-end, row-on}
+use Rattle.writer.specs.Laws.Rows.{row-end, row-on}
 use borrow.Fn.Kinds.{In}
 use borrow.Fn.PlainCycle.{Measures, is, falls, and}
 use Rattle.writer.proofs.row.Reads as row

@@ -9,7 +9,7 @@ use Rattle.tables.specs.Lines.{firstAt, countAt}
 use Rattle.tables.specs.Shapes.{inTurn}
 use Rattle.layout.specs.Laws.Slots.{holds-take, holds-drop}
 use Rattle.tables.specs.Laws.Runs.{turn-first, turn-rest}
-use Rattle.writer.specs.Chains.{subs-end, first-under, subs-on}
+use Rattle.writer.specs.Laws.Chains.{subs-end, first-under, subs-on}
 use borrow.Fn.Kinds.{In}
 use borrow.Fn.PlainCycle.{Measures, is, falls, and}
 use Rattle.writer.proofs.subfields.Reads as subfields

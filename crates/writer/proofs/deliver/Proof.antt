@@ -2,7 +2,7 @@
 use native.Mathlib.Omega.{arith}
 use borrow.Author.Needs.{needs}
 use denote.Ref.{now}
-use Rattle.writer.specs.Writes.{delivered, no-room}
+use Rattle.writer.specs.Laws.Writes.{delivered, no-room}
 use Rattle.writer.proofs.deliver.Statement.{statement}
 use Rattle.writer.proofs.deliver.Tie as tie
 
@@ -11,7 +11,7 @@ returns c =
     let y = c .before .before in
     let i = y .before .before in
     let a = i .before .before .before .args in
-    delivered (now (a .octets)) (now (a .out)) (omega (arith, i .if1 .taken)) (y .copy .ensures)
+    delivered (now (a .octets)) (now (a .out)) (omega (arith, i .if1 .taken)) (y .copy .ensures .0) (y .copy .ensures .1)
 
 returns-2 : tie.Need-returns-2
 returns-2 c = let a = c .before .before .before .args in no-room (now (a .octets)) (now (a .out)) (omega (arith, c .if1 .left))

@@ -1,5 +1,5 @@
 -- `writer::goes_on` meets its contract. Assumes nothing.
-use Rattle.writer.specs.Chains.{goes-not, goes-by}
+use Rattle.writer.specs.Laws.Chains.{goes-not, goes-by}
 use Rattle.writer.proofs.goes_on.Statement.{statement}
 use Rattle.writer.proofs.goes_on.Tie as tie
 

@@ -5,7 +5,7 @@ use borrow.Author.Needs.{needs}
 use denote.Ref.{now}
 use mir.Facts.{fits-of-lt}
 use Rattle.tables.specs.Laws.Shapes.{shaped-well}
-use Rattle.writer.specs.Chains.{chain-turn, item-single, item-chained}
+use Rattle.writer.specs.Laws.Chains.{chain-turn, item-single, item-chained}
 use Rattle.writer.proofs.item.Statement.{statement}
 use Rattle.writer.proofs.item.Tie as tie
 

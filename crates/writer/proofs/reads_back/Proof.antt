@@ -2,9 +2,9 @@
 use native.Mathlib.Omega.{arith}
 use borrow.Author.Needs.{needs}
 use denote.Ref.{now}
-use Rattle.reader.specs.Surveys.{octets-all}
-use Rattle.writer.specs.Same.{differ}
-use Rattle.writer.specs.Checked.{back-same, back-other}
+use Rattle.codec.specs.Laws.Codec.{octets-all}
+use Rattle.writer.specs.Laws.Same.{denied}
+use Rattle.writer.specs.Laws.Checked.{back-same, back-other}
 use Rattle.writer.proofs.reads_back.Statement.{statement}
 use Rattle.writer.proofs.reads_back.Tie as tie
 
@@ -22,7 +22,7 @@ returns-2 c =
     let s = c .before in
     let r = s .before .before in
     let k = r .before in
-    back-other (k .before .args .kept) (k .before .pre) (r .read .ensures) (differ (s .same .ensures) (c .if1 .left))
+    back-other (k .before .args .kept) (k .before .pre) (r .read .ensures) (denied (s .same .ensures .no) (c .if1 .left))
 
 pub reads-back-spec : {M : Type 1} → statement M
 reads-back-spec = tie.close (tie.spec (λ c κs. search needs) (λ c κs. search needs) returns returns-2)

@@ -9,7 +9,7 @@ use lib.IntN.{pos}
 use mir.Syntax.{w32}
 use mir.Val.{toZ, ofZ}
 use mir.Facts.{toZ-ofZ}
-use Rattle.writer.specs.Same.{told-apart, alike-more, told-alike}
+use Rattle.writer.specs.Laws.Same.{told-apart, alike-more, told-alike}
 use Rattle.writer.proofs.same_numbers.Statement.{statement}
 use Rattle.writer.proofs.same_numbers.Tie as tie
 

@@ -8,9 +8,9 @@ use mir.Syntax.{w32}
 use mir.Facts.{toZ-ofZ, fits-of-lt}
 use Rattle.codec.specs.Item.{isOne}
 use Rattle.tables.specs.Laws.Lines.{few-flags}
-use Rattle.tables.specs.Laws.Rows.{row-flag}
+use Rattle.tables.specs.Laws.Formats.{format-flag}
 use Rattle.layout.specs.Record.{numberAt}
-use Rattle.writer.specs.Chains.{sub-there, sub-absent}
+use Rattle.writer.specs.Laws.Chains.{sub-there, sub-absent}
 use Rattle.writer.proofs.subfield.Statement.{statement}
 use Rattle.writer.proofs.subfield.Tie as tie
 
@@ -18,11 +18,11 @@ add-number-at : tie.Need-add-number-at
 add-number-at c =
     let k = c .before in
     let s = k .before in
-    fits-of-lt (omega (arith, s .pre, row-flag (s .args .b) (k .row-of .ensures), few-flags (s .args .b)))
+    fits-of-lt (omega (arith, s .pre, format-flag (s .args .b) (k .format-of .ensures), few-flags (s .args .b)))
 
 -- the flag that was tested stands at its slot
 told : (c : tie.After-is-one)
-    → (let n = c .before in let k = n .before .before in let a = k .before .args in c .is-one .result ≡ isOne (numberAt (now (a .numbers)) (a .base + k .row-of .result .6)))
+    → (let n = c .before in let k = n .before .before in let a = k .before .args in c .is-one .result ≡ isOne (numberAt (now (a .numbers)) (a .base + k .format-of .result .flag)))
 told c =
     let n = c .before in
     c .is-one .ensures ∙ ap isOne (toZ-ofZ {w = w32} {z = n .number-at .result} (sfits-of (n .number-at .ok)) ∙ n .number-at .ensures)
@@ -33,14 +33,14 @@ returns c =
     let o = i .before in
     let k = o .before .before .before in
     let a = k .before .args in
-    λ zs us hz u hu. sub-there (now (a .numbers)) (a .b) (a .base) zs hz u (row-flag (a .b) (k .row-of .ensures)) (told o) us (i .if1 .taken) (c .line .ensures us hu)
+    λ zs us hz u hu. sub-there (now (a .numbers)) (a .b) (a .base) zs hz u (format-flag (a .b) (k .format-of .ensures)) (told o) us (i .if1 .taken) (c .line .ensures us hu)
 
 returns-2 : tie.Need-returns-2
 returns-2 c =
     let o = c .before in
     let k = o .before .before .before in
     let a = k .before .args in
-    λ zs us hz u hu. sub-absent (now (a .numbers)) (a .b) (a .base) zs hz u (row-flag (a .b) (k .row-of .ensures)) (told o) us (c .if1 .left) (now (a .octets)) (a .at)
+    λ zs us hz u hu. sub-absent (now (a .numbers)) (a .b) (a .base) zs hz u (format-flag (a .b) (k .format-of .ensures)) (told o) us (c .if1 .left) (now (a .octets)) (a .at)
 
 pub subfield-spec : {M : Type 1} → statement M
 subfield-spec = tie.close (tie.spec (λ c κs. search needs) add-number-at (λ c κs. search needs) (λ c κs. search needs) (λ c κs. search needs) returns returns-2)

@@ -2,7 +2,7 @@
 use mathlib.Core.Path.{refl, sym, _∙_}
 use borrow.Author.Needs.{needs}
 use denote.Ref.{now}
-use Rattle.writer.specs.Writes.{wrote-unknown, wrote-refused, stands-whole, wrote-all}
+use Rattle.writer.specs.Laws.Writes.{wrote-unknown, wrote-refused, stands-whole, wrote-all}
 use Rattle.writer.proofs.write.Statement.{statement}
 use Rattle.writer.proofs.write.Tie as tie
 

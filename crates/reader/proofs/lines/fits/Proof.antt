@@ -1,9 +1,8 @@
 -- `reader::lines::fits` meets its contract, by the kind. Assumes nothing.
 use mathlib.Core.Path.{_∙_}
-use native.Mathlib.Omega.{arith}
 use borrow.Author.Needs.{needs}
 use mir.Facts.{toZ-ofZ}
-use Rattle.reader.specs.Numbers.{limit-none, limit-lat, limit-ga}
+use Rattle.reader.specs.Laws.Numbers.{limit-none, limit-lat, limit-ga}
 use Rattle.reader.proofs.lines.fits.Statement.{statement}
 use Rattle.reader.proofs.lines.fits.Tie as tie
 

@@ -1,6 +1,6 @@
 -- `reader::lines::low` meets its contract. Assumes nothing.
-use mathlib.Core.Path.{_≡_, sym, ap, subst}
-use Prim.Native.Nat.{ℕ, _^_, _%_, _<_}
+use mathlib.Core.Path.{ap}
+use Prim.Native.Nat.{_^_, _%_, _<_}
 use native.Mathlib.Omega.{arith}
 use borrow.Author.Needs.{needs}
 use lib.Pow.{pow-pos}

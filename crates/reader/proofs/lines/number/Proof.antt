@@ -8,7 +8,7 @@ use lib.Pow.{pow-mono}
 use mir.Syntax.{w32}
 use mir.Facts.{toZ-ofZ, toZ-pos}
 use Rattle.codec.specs.Signed.{toSigned}
-use Rattle.reader.specs.Numbers.{plain-is, signed-is}
+use Rattle.reader.specs.Laws.Numbers.{plain-is, signed-is}
 use Rattle.reader.proofs.lines.number.Statement.{statement}
 use Rattle.reader.proofs.lines.number.Tie as tie
 

@@ -1,8 +1,8 @@
 -- `reader::lines::octets` meets its contract. The loop has the number of the octets passed.
 -- Assumes nothing.
-use mathlib.Core.Path.{_≡_, refl, sym, ap, ap₂, _∙_, subst}
+use mathlib.Core.Path.{_≡_, sym, ap, ap₂, _∙_, subst}
 use mathlib.Core.List.{List}
-use Prim.Native.Nat.{ℕ, suc, _≤_, _<_, _-_, _*_, _^_, _+_}
+use Prim.Native.Nat.{ℕ, _≤_, _<_, _-_, _*_, _^_, _+_}
 use native.Mathlib.Omega.{arith}
 use native.Mathlib.Nat.{lt-of-lt-of-le}
 use native.Mathlib.Numerals.{add-one}
@@ -43,19 +43,19 @@ loop-holds c = search needs
 mul-n : tie.Need-mul-n Inv-loop μ-loop
 mul-n c = fits-of-lt (omega (arith, under5 (c .before .loop .n) (c .before .loop .i) (search needs) (c .before .loop .inv .2)))
 
-add-wide : tie.Need-add-wide Inv-loop μ-loop
-add-wide c = omega arith
+add-wide64 : tie.Need-add-wide64 Inv-loop μ-loop
+add-wide64 c = omega arith
 
-shared-slice-read-wide : tie.Need-shared-slice-read-wide Inv-loop μ-loop
-shared-slice-read-wide c = omega arith
+shared-slice-read-wide64 : tie.Need-shared-slice-read-wide64 Inv-loop μ-loop
+shared-slice-read-wide64 c = omega arith
 
-wide-requires : tie.Need-wide-requires Inv-loop μ-loop
-wide-requires c κs = search needs
+wide64-requires : tie.Need-wide64-requires Inv-loop μ-loop
+wide64-requires c κs = search needs
 
 add-n : tie.Need-add-n Inv-loop μ-loop
 add-n c =
     let l = c .before .before .before in
-    fits-of-lt (omega (arith, under5 (l .loop .n) (l .loop .i) (search needs) (l .loop .inv .2), c .wide .ensures .1))
+    fits-of-lt (omega (arith, under5 (l .loop .n) (l .loop .i) (search needs) (l .loop .inv .2), c .wide64 .ensures .1))
 
 add-i : tie.Need-add-i Inv-loop μ-loop
 add-i c = search needs
@@ -70,8 +70,8 @@ loop-again c =
     let i : ℕ = l .loop .i in
     let e : 2 ^ (8 * (i + 1)) ≡ 256 * 2 ^ (8 * i) = pow8 i in (
       omega arith,
-      one-more (now (a .s)) (a .at) i (l .loop .n) _ (omega arith) (l .loop .inv .1) (c .wide .ensures .0),
-      omega (arith, c .wide .ensures .1, l .loop .inv .2),
+      one-more (now (a .s)) (a .at) i (l .loop .n) _ (omega arith) (l .loop .inv .1) (c .wide64 .ensures .0),
+      omega (arith, c .wide64 .ensures .1, l .loop .inv .2),
     )
 
 returns : tie.Need-returns Inv-loop μ-loop
@@ -84,4 +84,4 @@ returns c =
 pub octets-spec : {M : Type 1} → statement M
 octets-spec =
     tie.close
-    (tie.spec Inv-loop μ-loop loop-holds mul-n add-wide shared-slice-read-wide wide-requires add-n add-i loop-less loop-again returns)
+    (tie.spec Inv-loop μ-loop loop-holds mul-n add-wide64 shared-slice-read-wide64 wide64-requires add-n add-i loop-less loop-again returns)

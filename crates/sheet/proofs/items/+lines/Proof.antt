@@ -7,13 +7,13 @@ use borrow.Author.Needs.{needs}
 use denote.Ref.{now}
 use lib.ListN.{length, take, drop, length-take}
 use mir.Facts.{fits-of-lt}
-use Rattle.sheet.specs.Lines.{lines-end, lines-on}
+use Rattle.sheet.specs.Laws.Lines.{lines-end, lines-on}
 use borrow.Fn.Kinds.{In}
 use borrow.Fn.PlainCycle.{Measures, is, falls, and}
 use Rattle.sheet.proofs.items.lines.Reads as lines
 use Rattle.sheet.proofs.items.lines.Kinds as lines-kinds
 use Rattle.sheet.proofs.items.+lines.Lts-lines as lines-lts
-use Rattle.sheet.proofs.items.less.Reads as less-reads
+use Rattle.leaves.proofs.less.Reads as less-reads
 use Rattle.sheet.proofs.items.line.Reads as line-reads
 use Rattle.sheet.proofs.items.span.Reads as span-reads
 use Rattle.sheet.proofs.items.+lines.{statement}

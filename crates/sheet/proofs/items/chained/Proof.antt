@@ -1,5 +1,5 @@
 -- `sheet::items::chained` meets its contract: the line of the chain comes first. Assumes nothing.
-use Rattle.text.specs.Typing.{types-behind}
+use Rattle.text.specs.Laws.Typing.{types-behind}
 use Rattle.sheet.proofs.items.chained.Statement.{statement}
 use Rattle.sheet.proofs.items.chained.Tie as tie
 

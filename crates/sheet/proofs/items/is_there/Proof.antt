@@ -7,8 +7,8 @@ use mir.Syntax.{w32}
 use mir.Facts.{toZ-ofZ, fits-of-lt}
 use Rattle.codec.specs.Item.{isOne}
 use Rattle.tables.specs.Laws.Lines.{few-flags}
-use Rattle.tables.specs.Laws.Rows.{row-flag}
-use Rattle.sheet.specs.Lines.{there-sub, there-part}
+use Rattle.tables.specs.Laws.Formats.{format-flag}
+use Rattle.sheet.specs.Laws.Lines.{there-sub, there-part}
 use Rattle.sheet.proofs.items.is_there.Statement.{statement}
 use Rattle.sheet.proofs.items.is_there.Tie as tie
 
@@ -16,7 +16,7 @@ add-number-at : tie.Need-add-number-at
 add-number-at c =
     let r = c .before in
     let s = r .before .before in
-    fits-of-lt (omega (arith, s .pre, row-flag (s .args .b) (r .row-of .ensures), few-flags (s .args .b)))
+    fits-of-lt (omega (arith, s .pre, format-flag (s .args .b) (r .format-of .ensures), few-flags (s .args .b)))
 
 returns : tie.Need-returns
 returns c =
@@ -24,7 +24,7 @@ returns c =
     let r = n .before .before in
     let i = r .before in
     let a = i .before .args in
-    there-sub (now (a .numbers)) (a .count) (a .b) (a .parts) (a .base) (i .if1 .taken) (row-flag (a .b) (r .row-of .ensures))
+    there-sub (now (a .numbers)) (a .count) (a .b) (a .parts) (a .base) (i .if1 .taken) (format-flag (a .b) (r .format-of .ensures))
     (c .is-one .ensures ∙ ap isOne (toZ-ofZ {w = w32} {z = n .number-at .result} (sfits-of (n .number-at .ok)) ∙ n .number-at .ensures))
 
 returns-2 : tie.Need-returns-2

@@ -11,8 +11,9 @@ use Rattle.layout.specs.Cat007.{cat007}
 use Rattle.layout.specs.Names.{text, names048, names021, names007}
 use Rattle.scope.specs.Sheet.{chainText}
 use Rattle.tables.specs.Lines.{items, itemAt}
-use Rattle.sheet.specs.Keys.{groups}
-use Rattle.sheet.specs.Items.{named, namedAt, arm-plain, arm-chained}
+use Rattle.sheet.specs.Laws.Keys.{groups}
+use Rattle.sheet.specs.Items.{named, namedAt}
+use Rattle.sheet.specs.Laws.Items.{arm-plain, arm-chained}
 use Rattle.sheet.proofs.items.item_021.Statement.{statement}
 use Rattle.sheet.proofs.items.item_021.Tie as tie
 

@@ -5,7 +5,7 @@ use native.Mathlib.Omega.{arith}
 use denote.Ref.{now}
 use lib.ListN.{length, drop}
 use Rattle.sheet.specs.Keys.{span}
-use Rattle.sheet.specs.Lines.{span-end, span-found, span-on}
+use Rattle.sheet.specs.Laws.Lines.{span-end, span-found, span-on}
 use Rattle.sheet.proofs.items.span.Statement.{statement}
 use Rattle.sheet.proofs.items.span.Tie as tie
 

@@ -1,5 +1,5 @@
 -- `sheet::numbers::group` meets its contract: one law at each way out. Assumes nothing.
-use mathlib.Core.Path.{_≡_, refl, sym, subst}
+use mathlib.Core.Path.{_≡_, sym, subst}
 use Prim.Native.Nat.{ℕ, _-_, _≤_, _<_}
 use native.Mathlib.Omega.{arith}
 use borrow.Author.Needs.{needs}
@@ -7,8 +7,8 @@ use denote.Ref.{now}
 use lib.ListN.{length}
 use mir.Facts.{fits-of-lt}
 use Rattle.sheet.specs.Keys.{slotsIn}
-use Rattle.sheet.specs.Numbers.{slots-few}
-use Rattle.sheet.specs.Groups.{group-end, group-mark, group-word}
+use Rattle.sheet.specs.Laws.Numbers.{slots-few}
+use Rattle.sheet.specs.Laws.Groups.{group-end, group-mark, group-word}
 use borrow.Fn.Kinds.{In}
 use borrow.Fn.PlainCycle.{Measures, is, falls, and}
 use Rattle.sheet.proofs.numbers.group.Reads as group

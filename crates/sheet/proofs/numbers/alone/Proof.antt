@@ -2,7 +2,7 @@
 use borrow.Author.Needs.{needs}
 use denote.Ref.{now}
 use mir.Facts.{toZ-ofZ}
-use Rattle.sheet.specs.Numbers.{alone-key}
+use Rattle.sheet.specs.Laws.Numbers.{alone-key}
 use Rattle.sheet.proofs.numbers.alone.Statement.{statement}
 use Rattle.sheet.proofs.numbers.alone.Tie as tie
 

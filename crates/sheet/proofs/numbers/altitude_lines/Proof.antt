@@ -4,8 +4,8 @@ use denote.Ref.{now}
 use mir.Syntax.{w32}
 use mir.Facts.{toZ-ofZ}
 use Rattle.layout.specs.Names.{text}
-use Rattle.text.specs.Typing.{types-behind}
-use Rattle.sheet.specs.Numbers.{altitude-key}
+use Rattle.text.specs.Laws.Typing.{types-behind}
+use Rattle.sheet.specs.Laws.Numbers.{altitude-key}
 use Rattle.sheet.proofs.numbers.altitude_lines.Statement.{statement}
 use Rattle.sheet.proofs.numbers.altitude_lines.Tie as tie
 

@@ -1,5 +1,5 @@
 -- `sheet::numbers::is_mark` meets its contract. Assumes nothing.
-use Rattle.sheet.specs.Numbers.{mark-above, mark-below}
+use Rattle.sheet.specs.Laws.Numbers.{mark-above, mark-below}
 use Rattle.sheet.proofs.numbers.is_mark.Statement.{statement}
 use Rattle.sheet.proofs.numbers.is_mark.Tie as tie
 

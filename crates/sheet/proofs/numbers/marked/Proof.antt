@@ -3,7 +3,7 @@ use borrow.Author.Needs.{sfits-of}
 use denote.Ref.{now}
 use mir.Syntax.{w32}
 use mir.Facts.{toZ-ofZ}
-use Rattle.sheet.specs.Numbers.{meant-position, meant-altitude, meant-pressure, meant-hidden, meant-offset, meant-one, keyed-one, keyed-two, keyed-hidden}
+use Rattle.sheet.specs.Laws.Numbers.{meant-position, meant-altitude, meant-pressure, meant-hidden, meant-offset, meant-one, keyed-one, keyed-two, keyed-hidden}
 use Rattle.sheet.proofs.numbers.marked.Statement.{statement}
 use Rattle.sheet.proofs.numbers.marked.Tie as tie
 

@@ -1,7 +1,7 @@
 -- `sheet::numbers::pair` meets its contract: the names stand one behind the other. Assumes nothing.
 use denote.Ref.{now}
 use mir.Facts.{toZ-ofZ}
-use Rattle.sheet.specs.Numbers.{pair-key}
+use Rattle.sheet.specs.Laws.Numbers.{pair-key}
 use Rattle.sheet.proofs.numbers.pair.Statement.{statement}
 use Rattle.sheet.proofs.numbers.pair.Tie as tie
 

@@ -4,8 +4,8 @@ use denote.Ref.{now}
 use mir.Syntax.{w32}
 use mir.Facts.{toZ-ofZ}
 use Rattle.layout.specs.Names.{text}
-use Rattle.text.specs.Typing.{types-behind}
-use Rattle.sheet.specs.Numbers.{coordinate-key}
+use Rattle.text.specs.Laws.Typing.{types-behind}
+use Rattle.sheet.specs.Laws.Numbers.{coordinate-key}
 use Rattle.sheet.proofs.numbers.position_lines.Statement.{statement}
 use Rattle.sheet.proofs.numbers.position_lines.Tie as tie
 

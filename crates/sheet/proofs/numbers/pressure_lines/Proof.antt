@@ -4,7 +4,7 @@ use denote.Ref.{now}
 use lib.IntN.{pos, _+ℤ_}
 use mir.Syntax.{w64}
 use mir.Facts.{toZ-ofZ, sfits-widen}
-use Rattle.sheet.specs.Numbers.{tenths-fit, pressure-keys}
+use Rattle.sheet.specs.Laws.Numbers.{tenths-fit, pressure-keys}
 use Rattle.sheet.proofs.numbers.pressure_lines.Statement.{statement}
 use Rattle.sheet.proofs.numbers.pressure_lines.Tie as tie
 

@@ -1,5 +1,5 @@
 -- `sheet::numbers::slots_of` meets its contract. Assumes nothing.
-use Rattle.sheet.specs.Numbers.{slots-two, slots-pair, slots-one}
+use Rattle.sheet.specs.Laws.Numbers.{slots-two, slots-pair, slots-one}
 use Rattle.sheet.proofs.numbers.slots_of.Statement.{statement}
 use Rattle.sheet.proofs.numbers.slots_of.Tie as tie
 

@@ -9,7 +9,8 @@ use lib.Pow.{pow-mono}
 use mir.Syntax.{w32}
 use mir.Facts.{toZ-ofZ, fits-of-lt}
 use Rattle.layout.specs.Record.{numberAt}
-use Rattle.writer.specs.Digits.{lowBits, gather-none, first-bits, gather-spare, gather-on, gather-sum, gather-product}
+use Rattle.writer.specs.Digits.{lowBits}
+use Rattle.writer.specs.Laws.Digits.{gather-none, first-bits, gather-spare, gather-on, gather-sum, gather-product}
 use borrow.Fn.Kinds.{In}
 use borrow.Fn.PlainCycle.{Measures, is, falls, and}
 use Rattle.writer.proofs.lines.gather.Reads as gather

@@ -1,18 +1,20 @@
 -- `writer::lines::spill` meets its contract: one law at each way out. Assumes nothing.
 use mathlib.Core.Path.{ap, _∙_}
-use Prim.Native.Nat.{ℕ, _+_, _-_, _*_, _^_, _<_}
+use Prim.Native.Nat.{ℕ, _+_, _-_, _*_, _^_, _/_, _<_}
 use native.Mathlib.Omega.{arith}
 use denote.Ref.{now}
 use lib.ListN.{set}
 use lib.Pow.{pow-pos}
 use mir.Facts.{fits-of-lt}
-use Rattle.writer.specs.Lines.{spill-none, spill-on, spill-octet, spill-rest}
+use Rattle.leaves.specs.{octet-is}
+use Rattle.writer.specs.Laws.Lines.{spill-none, spill-on, spill-octet, spill-rest}
+use borrow.Author.Needs.{needs}
 use borrow.Fn.Kinds.{In}
 use borrow.Fn.PlainCycle.{Measures, is, falls, and}
 use Rattle.writer.proofs.lines.spill.Reads as spill
 use Rattle.writer.proofs.lines.spill.Kinds as spill-kinds
 use Rattle.writer.proofs.lines.+spill.Lts-spill as spill-lts
-use Rattle.writer.proofs.lines.octet.Reads as octet-reads
+use Rattle.leaves.proofs.octet64.Reads as octet64-reads
 use Rattle.writer.proofs.lines.power.Reads as power-reads
 use Rattle.writer.proofs.lines.put.Reads as put-reads
 use Rattle.writer.proofs.lines.+spill.{statement}
@@ -29,7 +31,7 @@ spill-below t = and 1 spill-kinds.ps (falls 1 spill-kinds.ps _<_ μ-spill t) spi
 
 -- what is known of the functions that it calls
 abbrev calls : ℕ → spill-lts.Claims
-calls t = (power-reads.Asked, power-reads.Learnt, octet-reads.Asked, octet-reads.Learnt, put-reads.Asked, put-reads.Learnt, spill-below t, spill.Post)
+calls t = (power-reads.Asked, power-reads.Learnt, octet64-reads.Asked, octet64-reads.Learnt, put-reads.Asked, put-reads.Learnt, spill-below t, spill.Post)
 
 spill-returns : (t : ℕ) → spill-lts.Need-returns (calls t) (spill-at t) spill.Post
 spill-returns t c =
@@ -45,18 +47,14 @@ spill-mul-power t c = let g = c .before .pre .1 in fits-of-lt (omega (arith, g))
 spill-power-requires : (t : ℕ) → spill-lts.Need-power-requires (calls t) (spill-at t) spill.Post
 spill-power-requires t c κs = let g = c .before .pre .1 in omega (arith, g)
 
-spill-div-octet : (t : ℕ) → spill-lts.Need-div-octet (calls t) (spill-at t) spill.Post
+spill-div-octet : (t : ℕ) → spill-lts.Need-div-octet64 (calls t) (spill-at t) spill.Post
 spill-div-octet t c =
     let k = c .before .before .before .args .k in
     let h : 0 < 2 ^ (8 * (k - 1)) = pow-pos (8 * (k - 1)) in
     omega (arith, c .before .power .ensures)
 
-spill-octet-requires : (t : ℕ) → spill-lts.Need-octet-requires (calls t) (spill-at t) spill.Post
-spill-octet-requires t c κs =
-    let p = c .before in
-    let e = p .before in
-    let s = e .before in
-    spill-octet (s .args .k) (s .args .n) (e .if1 .left) (p .power .ensures) (s .pre .1 .2)
+spill-octet64-requires : (t : ℕ) → spill-lts.Need-octet64-requires (calls t) (spill-at t) spill.Post
+spill-octet64-requires t c κs = search needs
 
 spill-put-requires : (t : ℕ) → spill-lts.Need-put-requires (calls t) (spill-at t) spill.Post
 spill-put-requires t c κs =
@@ -90,8 +88,10 @@ spill-returns-2 t c =
     let o = u .before in
     let p = o .before .before in
     let e = p .before in
-    let a = e .before .args in
-    spill-on (a .k) (a .n) (e .if1 .left) (p .power .ensures) (now (a .octets)) (a .at) (u .put .ensures ∙ ap (set (now (a .octets)) (a .at)) (o .octet .ensures)) (c .spill .ensures)
+    let s = e .before in
+    let a = s .args in
+    let small = octet-is (a .n / p .power .result) (spill-octet (a .k) (a .n) (e .if1 .left) (p .power .ensures) (s .pre .1 .2)) in
+    spill-on (a .k) (a .n) (e .if1 .left) (p .power .ensures) (now (a .octets)) (a .at) (u .put .ensures ∙ ap (set (now (a .octets)) (a .at)) (o .octet64 .ensures ∙ small)) (c .spill .ensures)
 
 pub +spill-spec : {M : Type 1} → statement M
 +spill-spec = close μ-spill λ t. spill-lts.spec (calls t)
@@ -102,7 +102,7 @@ pub +spill-spec : {M : Type 1} → statement M
     (spill-mul-power t)
     (spill-power-requires t)
     (spill-div-octet t)
-    (spill-octet-requires t)
+    (spill-octet64-requires t)
     (spill-put-requires t)
     (spill-rem-spill t)
     (spill-sub-spill t)

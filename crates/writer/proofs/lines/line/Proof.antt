@@ -7,8 +7,8 @@ use denote.Ref.{now}
 use lib.Pow.{pow-pos, pow-mono}
 use mir.Facts.{fits-of-lt}
 use Rattle.tables.specs.Laws.Lines.{few-line-slots}
-use Rattle.tables.specs.Laws.Rows.{row-few, row-runs, row-fx-few, row-first}
-use Rattle.writer.specs.Lines.{row-bits, line-full, line-number, line-laid}
+use Rattle.tables.specs.Laws.Formats.{format-few, format-runs, format-fx-few, format-first}
+use Rattle.writer.specs.Laws.Lines.{row-bits, line-full, line-number, line-laid}
 use Rattle.writer.proofs.lines.line.Statement.{statement}
 use Rattle.writer.proofs.lines.line.Tie as tie
 
@@ -17,62 +17,62 @@ under : {x k : ℕ} → k ≤ 6 → x < 2 ^ (8 * k) → x < 18_446_744_073_709_5
 under {x} {k} h lt = lt-of-lt-of-le lt (pow-mono {i = 8 * k} {j = 64} (omega arith))
 
 sub-if1 : tie.Need-sub-if1
-sub-if1 c = omega (arith, row-few (c .before .args .b) (c .row-of .ensures))
+sub-if1 c = omega (arith, format-few (c .before .args .b) (c .format-of .ensures))
 
 returns : tie.Need-returns
 returns c =
     let k = c .before in
     let a = k .before .args in
-    λ zs h. line-full (a .b) (k .row-of .ensures) (now (a .numbers)) (a .base) (a .fx) (a .at) (now (a .octets)) (c .if1 .taken) zs
+    λ zs h. line-full (a .b) (k .format-of .ensures) (now (a .numbers)) (a .base) (a .fx) (a .at) (now (a .octets)) (c .if1 .taken) zs
 
 mul-bits : tie.Need-mul-bits
-mul-bits c = let k = c .before in fits-of-lt (omega (arith, row-few (k .before .args .b) (k .row-of .ensures)))
+mul-bits c = let k = c .before in fits-of-lt (omega (arith, format-few (k .before .args .b) (k .format-of .ensures)))
 
 sub-bits : tie.Need-sub-bits
-sub-bits c = let k = c .before .before in row-bits (k .before .args .b) (k .row-of .ensures) .0
+sub-bits c = let k = c .before .before in row-bits (k .before .args .b) (k .format-of .ensures) .0
 
 add-gather : tie.Need-add-gather
 add-gather c =
     let k = c .before .before .before in
     let s = k .before in
-    fits-of-lt (omega (arith, s .pre, row-first (s .args .b) (k .row-of .ensures), few-line-slots (s .args .b)))
+    fits-of-lt (omega (arith, s .pre, format-first (s .args .b) (k .format-of .ensures), few-line-slots (s .args .b)))
 
 gather-requires : tie.Need-gather-requires
 gather-requires c κs =
     let k = c .before .before .before in
     let s = k .before in
     let b = s .args .b in
-    let e = k .row-of .ensures in
-    (row-bits b e .1, omega (arith, row-few b e), omega (arith, s .pre, row-first b e, few-line-slots b, row-runs b e))
+    let e = k .format-of .ensures in
+    (row-bits b e .1, omega (arith, format-few b e), omega (arith, s .pre, format-first b e, few-line-slots b, format-runs b e))
 
 power-requires : tie.Need-power-requires
-power-requires c κs = let k = c .before .before .before .before in omega (arith, row-fx-few (k .before .args .b) (k .row-of .ensures))
+power-requires c κs = let k = c .before .before .before .before in omega (arith, format-fx-few (k .before .args .b) (k .format-of .ensures))
 
 -- the number that is spilt
 fits-octets : (c : tie.After-power)
-    → (let k = c .before .before .before .before .before in c .before .gather .result * c .power .result + k .before .args .fx % c .power .result < 2 ^ (8 * k .row-of .result .0))
+    → (let k = c .before .before .before .before .before in c .before .gather .result * c .power .result + k .before .args .fx % c .power .result < 2 ^ (8 * k .format-of .result .octets))
 fits-octets c =
     let k = c .before .before .before .before .before in
     let a = k .before .args in
-    line-number (a .b) (k .row-of .ensures) (now (a .numbers)) (a .base) (a .fx) (a .at) (now (a .octets)) (c .before .gather .ensures) (c .power .ensures)
+    line-number (a .b) (k .format-of .ensures) (now (a .numbers)) (a .base) (a .fx) (a .at) (now (a .octets)) (c .before .gather .ensures) (c .power .ensures)
 
 mul-spill : tie.Need-mul-spill
 mul-spill c =
     let k = c .before .before .before .before .before in
-    let h = under (row-few (k .before .args .b) (k .row-of .ensures)) (fits-octets c) in
+    let h = under (format-few (k .before .args .b) (k .format-of .ensures)) (fits-octets c) in
     fits-of-lt (omega (arith, h))
 
 rem-spill : tie.Need-rem-spill
-rem-spill c = let f = c .before .before .before .before .before .row-of .result .4 in omega (arith, c .power .ensures, pow-pos f)
+rem-spill c = let f = c .before .before .before .before .before .format-of .result .below in omega (arith, c .power .ensures, pow-pos f)
 
 add-spill : tie.Need-add-spill
-add-spill c = let k = c .before .before .before .before .before in fits-of-lt (under (row-few (k .before .args .b) (k .row-of .ensures)) (fits-octets c))
+add-spill c = let k = c .before .before .before .before .before in fits-of-lt (under (format-few (k .before .args .b) (k .format-of .ensures)) (fits-octets c))
 
 spill-requires : tie.Need-spill-requires
 spill-requires c κs =
     let e = c .before .before .before .before .before in
     let k = e .before in
-    let few = row-few (k .before .args .b) (k .row-of .ensures) in
+    let few = format-few (k .before .args .b) (k .format-of .ensures) in
     (omega (arith, e .if1 .left, few), few, fits-octets (c .before))
 
 returns-2 : tie.Need-returns-2
@@ -81,7 +81,7 @@ returns-2 c =
     let k = p .before .before .before .before .before in
     let a = k .before .args in
     λ zs h.
-    line-laid (a .b) (k .row-of .ensures) (now (a .numbers)) (a .base) (a .fx) (a .at) (now (a .octets)) (p .before .gather .ensures) (p .power .ensures) (c .spill .ensures) zs h
+    line-laid (a .b) (k .format-of .ensures) (now (a .numbers)) (a .base) (a .fx) (a .at) (now (a .octets)) (p .before .gather .ensures) (p .power .ensures) (c .spill .ensures) zs h
 
 pub line-spec : {M : Type 1} → statement M
 line-spec =

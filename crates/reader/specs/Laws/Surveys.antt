@@ -1,0 +1,125 @@
+-- What `survey` answers: where each item begins, behind the last item where the field ends.
+use mathlib.Core.Path.{_≡_, refl, sym, ap, _∙_, subst}
+use mathlib.Core.Bool.{Bool}
+use mathlib.Core.List.{List, [], _∷_, _++_}
+use Prim.Native.Nat.{ℕ, zero, suc, _+_, _-_, _≤_, _<_}
+use native.Mathlib.Nat.{not-suc-le-zero, le-of-suc-le-suc}
+use native.Mathlib.Omega.{arith}
+use lib.Dec.{T, eqb}
+use lib.IntN.{ℤ}
+use lib.ListN.{length, getD, take, drop, replicate}
+use lib.Seq.{sets-eq, length-take-le}
+use Rattle.codec.specs.Codec.{Octets, Res, got, bad, shift, Was, opt}
+use Rattle.codec.specs.Line.{Held}
+use Rattle.codec.specs.Item.{Item, slots, nothing, item, goodItem}
+use Rattle.codec.specs.Field.{uncons, firstFlag, nextFlags, place, flags, Contents, goodItems, texts, textsOf, before}
+use Rattle.codec.specs.Frame.{accepted}
+use Rattle.codec.specs.Meaning.{lenOf}
+use Rattle.codec.specs.Laws.Tests.{and-l, and-r}
+use Rattle.codec.specs.Laws.Codec.{octets-drop, octets-take, lawful-opt}
+use Rattle.codec.specs.Laws.Item.{only-nothing, lawful-item}
+use Rattle.codec.specs.Laws.Field.{length-texts}
+use Rattle.codec.specs.Laws.View.{before-next}
+use Rattle.layout.specs.declared.Answer.{Answer}
+use Rattle.layout.specs.declared.Answer.the-variants.{Accepted, Refused}
+use Rattle.layout.specs.Papers.{paperOf, itemsOf}
+use Rattle.layout.specs.Laws.Papers.{good-paper, few-items}
+use Rattle.scope.specs.Survey.{startsFrom, surveyed, surveyOf}
+use Rattle.tables.specs.Lines.{spotOf}
+use Rattle.tables.specs.Shapes.{itemOn, itemsFrom}
+use Rattle.tables.specs.Laws.Spots.{spots-right}
+use Rattle.layout.specs.declared.Surveyed.{Surveyed}
+use Rattle.reader.specs.Rows.{placeRun, Found, found, goOn, rowFrom}
+use Rattle.reader.specs.Fields.{walkOf, answerTo, outAfter, WalkStands}
+use Rattle.reader.specs.Laws.Whole.{found-sized, drop-replicate, Walked, walked, walk-found, walk-fell, field-found, field-fell}
+
+-- ---- where the texts begin
+
+starts-at : (at : ℕ) (ts : List (List ℕ)) (zs : List ℕ) (i : ℕ) → i ≤ length ts → getD (startsFrom at ts ++ zs) i 0 ≡ at + before ts i
+unfolding startsFrom before
+starts-at at [] zs zero h = omega arith
+starts-at at [] zs (suc i) h = absurd (not-suc-le-zero h)
+starts-at at (t ∷ ts) zs zero h = omega arith
+starts-at at (t ∷ ts) zs (suc i) h = let ih : getD (startsFrom (at + length t) ts ++ zs) i 0 ≡ at + length t + before ts i = starts-at (at + length t) ts zs i (le-of-suc-le-suc h) in ih ∙ (omega arith)
+
+-- an item of a field: where it begins, and its length
+module _ (cat : ℕ) (r : Contents) (zs : List ℕ) where
+  many : length (textsOf (paperOf cat) r) ≡ itemsOf cat
+  unfolding textsOf
+  many = length-texts (flags (r .0)) (paperOf cat) (r .1)
+
+  pub begins : (i : ℕ) → i < itemsOf cat → getD (startsFrom 2 (textsOf (paperOf cat) r) ++ zs) i 0 ≡ 2 + before (textsOf (paperOf cat) r) i
+  begins i h = let m = many in starts-at 2 (textsOf (paperOf cat) r) zs i (omega (arith, m))
+
+  pub ends : (i : ℕ) → i < itemsOf cat → getD (startsFrom 2 (textsOf (paperOf cat) r) ++ zs) (suc i) 0 ≡ 2 + before (textsOf (paperOf cat) r) i + length (getD (textsOf (paperOf cat) r) i [])
+  ends i h =
+      let m = many in
+      let n : before (textsOf (paperOf cat) r) (suc i) ≡ before (textsOf (paperOf cat) r) i + length (getD (textsOf (paperOf cat) r) i []) = before-next (textsOf (paperOf cat) r) i (omega (arith, m)) in
+      starts-at 2 (textsOf (paperOf cat) r) zs (suc i) (omega (arith, m)) ∙ (omega (arith, n))
+
+-- ---- the places that a row finds are where its texts end
+
+place-end : (k : ℕ) (t : Bool) → T (goodItem (itemOn k)) → (xs : List ℕ) → Octets xs → (at : ℕ) (v : Held) (m : ℕ) → placeRun k t xs at ≡ got v m
+    → at + length ((opt (nothing (slots (itemOn k))) t (item (itemOn k))) .write v) ≡ m
+unfolding placeRun
+place-end k t g xs o at v m e = go ((opt (nothing (slots (itemOn k))) t (item (itemOn k))) .read (drop at xs)) refl e
+  where
+    go : (x : Res Held) → (opt (nothing (slots (itemOn k))) t (item (itemOn k))) .read (drop at xs) ≡ x → shift at x ≡ got v m → at + length ((opt (nothing (slots (itemOn k))) t (item (itemOn k))) .write v) ≡ m
+    go (bad q p) ex h = let z : _≡_ {A = ℕ} 0 1 = cc in absurd (omega arith)
+    go (got u n) ex h =
+        let eu : u ≡ v = cc in
+        let em : at + n ≡ m = cc in
+        let w : Was (opt (nothing (slots (itemOn k))) t (item (itemOn k))) (drop at xs) u n = (lawful-opt (only-nothing (slots (itemOn k))) t (lawful-item (itemOn k) g)) .back (drop at xs) (octets-drop at xs o) u n ex in
+        ap (λ x. at + length ((opt (nothing (slots (itemOn k))) t (item (itemOn k))) .write x)) (sym eu) ∙ ap (at +_) (ap length (sym (w .took)) ∙ length-take-le n (drop at xs) (w .within)) ∙ em
+
+abbrev RowStarts : ℕ → List ℕ → List Item → Res Found → Type 0
+RowStarts at ds its (got f e) = _≡_ {A = List ℕ} (at ∷ f .1) (startsFrom at (texts ds its (f .0)))
+RowStarts at ds its (bad e p) = Unit {0}
+
+row-starts : (k n : ℕ) → T (goodItems (itemsFrom k n)) → (ds xs : List ℕ) → Octets xs → (at : ℕ) → RowStarts at ds (itemsFrom k n) (rowFrom k n ds xs at)
+unfolding rowFrom itemsFrom startsFrom texts goodItems uncons
+row-starts k zero g ds xs o at = refl
+row-starts k (suc n) g ds xs o at =
+    by (λ m. row-starts (k + 1) n (and-r (goodItem (itemOn k)) _ g) (nextFlags ds) xs o m) (placeRun k (eqb (firstFlag ds) 1) xs at) (place-end k (eqb (firstFlag ds) 1) (and-l (goodItem (itemOn k)) _ g) xs o at)
+  where
+    next : (v : Held) (m : ℕ) → at + length ((place (firstFlag ds) (itemOn k)) .write v) ≡ m → (x : Res Found) → RowStarts m (nextFlags ds) (itemsFrom (k + 1) n) x → RowStarts at ds (itemOn k ∷ itemsFrom (k + 1) n) (found v m x)
+    next v m l (bad e p) s = tt
+    next v m l (got f e) s = ap (at ∷_) (s ∙ ap (λ j. startsFrom j (texts (nextFlags ds) (itemsFrom (k + 1) n) (f .0))) (sym l))
+
+    by : ((m : ℕ) → RowStarts m (nextFlags ds) (itemsFrom (k + 1) n) (rowFrom (k + 1) n (nextFlags ds) xs m))
+        → (y : Res Held) → ((v : Held) (m : ℕ) → y ≡ got v m → at + length ((place (firstFlag ds) (itemOn k)) .write v) ≡ m)
+        → RowStarts at ds (itemOn k ∷ itemsFrom (k + 1) n) (goOn y (λ m. rowFrom (k + 1) n (nextFlags ds) xs m))
+    by ih (bad e p) l = tt
+    by ih (got v m) l = next v m (l v m refl) (rowFrom (k + 1) n (nextFlags ds) xs m) (ih m)
+
+-- ---- the ways out of `survey`
+
+module _ (cat : ℕ) (s : List ℕ) {a : Answer} {l m : List ℤ} {ps qs ts : List ℕ} (w : WalkStands l ps (2 ∷ replicate 8 0) (lenOf s) (walkOf cat s) a m qs ts) where
+  pub survey-refused : {q r : ℕ} → a ≡ Refused q r → _≡_ {A = Surveyed} (record { answer = a; items = 0; starts = replicate 9 0 }) (surveyOf cat s)
+  unfolding surveyOf surveyed
+  survey-refused ea = rw (field-fell cat s (walk-fell w ea), ea) refl
+
+  starts-are : Octets s → (f : Found) → walkOf cat s ≡ accepted f → ts ≡ startsFrom 2 (textsOf (paperOf cat) (getD s 1 0, f .0)) ++ replicate (8 - itemsOf cat) 0
+  unfolding textsOf
+  starts-are o f ef =
+      let k : Walked cat s f = walked cat s f ef in
+      let n : ℕ = itemsOf cat in
+      let ei : itemsFrom (spotOf cat) n ≡ paperOf cat = (spots-right cat (k .known-is)) .items-are in
+      let ep : length (f .1) ≡ n = (found-sized cat s f k) .places in
+      let few : n ≤ 8 = few-items cat in
+      let g : 1 + length (f .1) ≤ length {A = ℕ} (2 ∷ replicate 8 0) = omega arith in
+      let q : 1 + length (f .1) ≡ suc (length (f .1)) = omega arith in
+      let es : 2 ∷ f .1 ≡ startsFrom 2 (texts (flags (getD s 1 0)) (itemsFrom (spotOf cat) n) (f .0))
+      = subst (RowStarts 2 (flags (getD s 1 0)) (itemsFrom (spotOf cat) n)) (k .row-is) (row-starts (spotOf cat) n (subst (λ x. T (goodItems x)) (sym ei) (good-paper cat)) (flags (getD s 1 0)) (take (lenOf s) s) (octets-take (lenOf s) s o) 2) in
+      w .starts ∙ ap (outAfter (2 ∷ replicate 8 0) 1 (λ f. f .1) ts) ef
+      ∙ sets-eq (f .1) (2 ∷ replicate 8 0) 1 g
+      ∙ ap (λ x. (2 ∷ f .1) ++ x) (ap (λ j. drop j (2 ∷ replicate 8 0)) q ∙ drop-replicate 0 (length (f .1)) 8 ∙ ap (λ j. replicate (8 - j) 0) ep)
+      ∙ ap (_++ replicate (8 - n) 0) (es ∙ ap (λ its. startsFrom 2 (texts (flags (getD s 1 0)) its (f .0))) ei)
+
+  pub survey-accepted : Octets s → {n : ℕ} → a ≡ Accepted n → _≡_ {A = Surveyed} (record { answer = a; items = getD s 1 0; starts = ts }) (surveyOf cat s)
+  unfolding surveyOf surveyed
+  survey-accepted o ea =
+      walk-found w ea (_≡_ {A = Surveyed} (record { answer = a; items = getD s 1 0; starts = ts }) (surveyOf cat s)) λ f ef.
+      let el : a ≡ Accepted (lenOf s) = w .answer ∙ ap (answerTo (lenOf s)) ef in
+      (λ i. record { answer = el i; items = getD s 1 0; starts = starts-are o f ef i })
+      ∙ sym (ap (surveyed cat s) (field-found cat s f ef))

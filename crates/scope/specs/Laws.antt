@@ -1,0 +1,6 @@
+-- What follows from the definitions, for the code and for the promises alike.
+pub mod Outputs
+pub mod Reading
+pub mod Refusals
+pub mod Views
+pub mod Edits

@@ -1,0 +1,6 @@
+-- What follows from the definitions, for the proofs of the functions.
+pub mod Typing
+pub mod Decimals
+pub mod Hex
+pub mod Ranges
+pub mod Longest

@@ -1,0 +1,5 @@
+-- What follows from the definitions, for the proofs of the functions.
+pub mod Lines
+pub mod Numbers
+pub mod Octets
+pub mod Written
