@@ -66,3 +66,22 @@ PAPERS = {
     21: [BPS, SELH, NAV, GAO, SGV, STA, TNH, MES],
     7: [TA, M5N, M4E, RPC, ERR],
 }
+
+# What one step of a number is, by the number's key on the sheet: (numerator, denominator, unit, what 0 stands for). No other number has a
+# printed LSB. The units are printed as degrees or °, ft, s, db, NM, hPa, meters and kts.
+MODE_5 = {"POS.LAT": (180, 2 ** 23, "degrees", 0), "POS.LON": (180, 2 ** 23, "degrees", 0),  # printed with its value, 2.145767*10-05
+          "GA.GA": (25, 1, "ft", 0), "TOS": (1, 128, "s", 0)}
+RADAR = {"RPC.SCR": (1, 10, "dB", 0), "RPC.RW": (1, 256, "NM", 0), "RPC.AR": (1, 256, "NM", 0), "ERR": (1, 256, "NM", 0)}
+MEASURES = {
+    **{(cat, f"{item}.{key}"): step for cat, item in ((48, "MD5"), (48, "M5N"), (7, "M5N")) for key, step in MODE_5.items()},
+    **{(cat, key): step for cat in (48, 7) for key, step in RADAR.items()},
+    (7, "TA.TAmax"): (25, 1, "ft", 0),
+    (7, "TA.TAmin"): (25, 1, "ft", 0),
+    (21, "BPS"): (1, 10, "hPa", 800),
+    (21, "SelH.SelH"): (703125, 1000000, "", 0),  # "LSB = 0.703125", no unit
+    (21, "GAO.Lateral"): (2, 1, "m", 0),
+    (21, "GAO.Longitudinal"): (2, 1, "m", 0),
+    (21, "SGV.GSS"): (125, 1000, "kt", 0),
+    (21, "SGV.HGT"): (28125, 10000, "degrees", 0),
+    (21, "TNH"): (360, 2 ** 16, "degrees", 0),  # "approx. 0.0055°"
+}

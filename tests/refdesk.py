@@ -1,8 +1,8 @@
 #!/usr/bin/env python3
 """Makes the lines that the co-process `refdesk` is sent and those that it has to answer, from tests/reference.py and tests/papers.py alone.
 
-Writes crates/refdesk/stdin and crates/refdesk/stdout, the same octets at every run. DESIGN.md, section 6, says what a request is: `answer` below
-reads it from there and shares nothing with crates/. The requests of each operation are those of tests/vectors.py, tests/records.py and tests/edits.py, written
+Writes crates/refdesk/stdin and crates/refdesk/stdout, the same octets at every run. `answer` below has the protocol
+of its own and shares nothing with crates/. The requests of each operation are those of tests/vectors.py, tests/records.py and tests/edits.py, written
 as lines; a generator of WRONG gives lines that are no request, and its first line says in which way.
 """
 import random

@@ -1,8 +1,10 @@
 #!/usr/bin/env python3
-"""01's worked octets, edits and longest fields, and edits and records written by hand, held against the reference implementation of the tests."""
+"""01's worked octets, edits and longest fields, and edits and records written by hand, held against the reference implementation of the tests;
+and the papers' data of crates/layout, as tests/slots.py takes it, held against the transcription of the tests."""
+import slots
 from edits import BASE, WORKED
-from papers import PAPERS
-from reference import choose, edit, read, sheet, size, SLOTS, udeg, view, write
+from papers import MEASURES, PAPERS
+from reference import choose, edit, keys, read, sheet, size, SLOTS, spare_bits, udeg, view, write
 from vectors import READ, requests
 
 h = bytes.fromhex
@@ -151,6 +153,58 @@ WRITES = [  # by hand from 01 and the papers: category, items, {item: parts}, {s
 ]
 
 
+# ---- crates/layout by tests/slots.py, against tests/papers.py
+
+KINDS = {(False, None): "u", (True, None): "s", (True, (-4194304, 4194304)): "lat", (True, (-40, 8191)): "ga"}
+OTHER_NAMES = {(21, "True North Heading"): "TNH"}  # the number has no short name in document 003
+ABOVE = list(zip("SUM PMN POS GA EM1 TOS XP".split(), range(16, 9, -1)))  # 2.4 of documents 000 and 004: the first octet of M5N is bits 16/9
+
+
+def same_line(cat, structure, octets, defined, fx):
+    """A chain part or subfield: its octets, its numbers in order, its spare bits."""
+    numbers = [r for r in structure.runs if hasattr(r, "name")]
+    taken = [(OTHER_NAMES.get((cat, n.name), n.name), n.hi, n.lo, KINDS[n.signed, n.limits]) for n in numbers]
+    assert (structure.octets, taken) == (octets, defined), (cat, structure)
+    spare = sum((2 << r.hi - r.lo) - 1 << r.lo - 1 for r in structure.runs if r not in numbers)
+    assert spare == spare_bits(octets, defined, fx), (cat, structure)
+
+
+def same_item(cat, entry, item):
+    name, parts, subs = item
+    assert (entry.name, len(entry.parts)) == (name, len(parts)), (cat, entry)
+    assert [s.name for s in entry.subs] == [sub for sub, _, _ in subs], (cat, entry)
+    for part, (octets, defined) in zip(entry.parts, parts):
+        same_line(cat, part, octets, defined, True)
+    for structure, (_, octets, defined) in zip(entry.subs, subs):
+        same_line(cat, structure, octets, defined, False)
+    return len(parts) + len(subs)
+
+
+def same_measure(cat, key, number):
+    """Both LSBs as fractions; a flag or code, which has none, as 0/1."""
+    times, over, unit, start = MEASURES.get((cat, key), (0, 1, "", 0))
+    taken_times, taken_over = number.lsb or (0, 1)
+    assert taken_times * over == times * taken_over, (cat, key, number)
+    assert (number.unit, number.start) == (unit, start), (cat, key, number)
+
+
+def same_paper(cat):
+    """The count of the checks: one for each chain part and subfield, and one for each slot."""
+    entries, items = slots.paper(cat), PAPERS[cat]
+    rows = slots.rows(entries)
+    assert len(entries) == len(items), cat
+    checks = sum(same_item(cat, entry, item) for entry, item in zip(entries, items))
+    assert [row.key for row in rows] == [key for item in items for key in keys(item)], cat
+    flags = [f"{name}.{sub}" for name, parts, subs in items if parts for sub, _, _ in subs]
+    assert [row.name for row in rows if row.key is None] == flags, cat
+    assert [row.slot for row in rows] == list(range(sum(map(size, items)))) and len(rows) <= SLOTS, cat
+    for row in rows:
+        same_measure(cat, row.key, row.number)
+    above = [(row.name, row.number.hi + row.number.below) for row in rows if row.number.below]
+    assert above == ([(f"M5N.{name}", bit) for name, bit in ABOVE] if cat != 21 else []), (cat, above)
+    return checks + len(rows)
+
+
 def longest(cat):
     return 2 + sum(sum(o for o, _ in parts) + sum(o for _, o, _ in subs) for _, parts, subs in PAPERS[cat])
 
@@ -180,10 +234,13 @@ for kind, cat, _, field, _ in requests():  # what is read is written again, as i
     if kind == READ and got[0] == "ok":
         assert write(got[2], got[1]) == ("ok", field[:got[1]]), field
         checks += 1
+assert slots.differing() == [], "python3 tests/slots.py write"
+assert set(MEASURES) <= {(cat, row.key) for cat in PAPERS for row in slots.rows(slots.paper(cat))}
+checks += sum(same_paper(cat) for cat in PAPERS)
 assert [longest(c) for c in (48, 21, 7)] == [52, 31, 38]
 assert [sum(map(size, PAPERS[c])) for c in (48, 21, 7)] == [77, 74, 46]
 assert view(48, BASE, 5) == ("ok", 3, 3, h("01 00 00"))
 assert choose(48, BASE, h("03 20 04"), 3) == ("ok", 2, 2, 1, h("04"))
 assert sheet(h("30 06 28 06 01 00 00")) == "cat=48\nlen=6\nitems=M4E,ERR\nM4E=3\nERR=65536\nend=ok\n"
 assert [udeg(n) for n in (1, 16384, -16384, 4194304)] == [21, 351563, -351563, 90000000]
-print(f"{checks + 6} passed, 0 failed")
+print(f"{checks + 8} passed, 0 failed")

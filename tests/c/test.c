@@ -130,25 +130,26 @@ static const struct read_row {
 } read_rows[] = {
     {48, "02 00", OK(2), {48, 0x00, 1, 0, {{0, 0}}}},
     {48, "02 80", REFUSED(5, 2), {0, 0, 1, 0, {{0, 0}}}},
-    {48, "03 20 06", OK(3), {48, 0x20, 3, 1, {{67, 3}}}},
+    {48, "03 20 06", OK(3), {48, 0x20, 3, 1, {{REF_048_M4E, 3}}}},
     {48, "03 20 0F", REFUSED(6, 2), {0, 0, 1, 0, {{0, 0}}}},
     {48, "03 20 07", REFUSED(7, 2), {0, 0, 1, 0, {{0, 0}}}},
     {48, "04 40 01 00", OK(4), {48, 0x40, 2, 2, {{0, 0}}}},
     {48, "04 40 01 01", REFUSED(7, 3), {0, 0, 1, 0, {{0, 0}}}},
     {48, "04 40 01 80", REFUSED(5, 4), {0, 0, 1, 0, {{0, 0}}}},
-    {48, "05 40 01 80 1F", OK(5), {48, 0x40, 2, 2, {{40, 1}, {66, 31}}}},
+    {48, "05 40 01 80 1F", OK(5), {48, 0x40, 2, 2, {{REF_048_HAS_M5N_FOM, 1}, {REF_048_M5N_FOM, 31}}}},
     {48, "05 40 01 80 20", REFUSED(6, 4), {0, 0, 1, 0, {{0, 0}}}},
-    {48, "05 80 10 3F D8", OK(5), {48, 0x80, 1, 1, {{3, 1}, {21, -40}}}},
+    {48, "05 80 10 3F D8", OK(5), {48, 0x80, 1, 1, {{REF_048_HAS_MD5_GA, 1}, {REF_048_MD5_GA_GA, -40}}}},
     {48, "05 80 10 3F D7", REFUSED(8, 3), {0, 0, 1, 0, {{0, 0}}}},
-    {48, "04 80 04 FF", OK(4), {48, 0x80, 1, 1, {{5, 1}, {26, -1}}}},
-    {48, "09 80 20 40 00 00 80 00 00", OK(9), {48, 0x80, 1, 1, {{2, 1}, {18, 4194304}, {19, -8388608}}}},
+    {48, "04 80 04 FF", OK(4), {48, 0x80, 1, 1, {{REF_048_HAS_MD5_TOS, 1}, {REF_048_MD5_TOS, -1}}}},
+    {48, "09 80 20 40 00 00 80 00 00", OK(9),
+     {48, 0x80, 1, 1, {{REF_048_HAS_MD5_POS, 1}, {REF_048_MD5_POS_LAT, 4194304}, {REF_048_MD5_POS_LON, -8388608}}}},
     {48, "09 80 20 40 00 01 80 00 00", REFUSED(8, 3), {0, 0, 1, 0, {{0, 0}}}},
     {48, "06 08 01 00 00 00", REFUSED(9, 5), {0, 0, 1, 0, {{0, 0}}}},
     {48, "03 01 00", REFUSED(4, 1), {0, 0, 1, 0, {{0, 0}}}},
     {21, "03 01 00", OK(3), {21, 0x01, 8, 1, {{0, 0}}}},
-    {21, "04 80 0F FF", OK(4), {21, 0x80, 1, 0, {{0, 4095}}}},
-    {7, "06 80 3F FF 00 19", OK(6), {7, 0x80, 1, 0, {{0, -1}, {1, 25}}}},
-    {48, "06 28 06 01 00 00", OK(6), {48, 0x28, 3, 1, {{67, 3}, {76, 65536}}}},
+    {21, "04 80 0F FF", OK(4), {21, 0x80, 1, 0, {{REF_021_BPS, 4095}}}},
+    {7, "06 80 3F FF 00 19", OK(6), {7, 0x80, 1, 0, {{REF_007_TA_TAMAX, -1}, {REF_007_TA_TAMIN, 25}}}},
+    {48, "06 28 06 01 00 00", OK(6), {48, 0x28, 3, 1, {{REF_048_M4E, 3}, {REF_048_ERR, 65536}}}},
     {49, "02 00", REFUSED(1, 0), {0, 0, 1, 0, {{0, 0}}}},
     {0, "", REFUSED(1, 0), {0, 0, 1, 0, {{0, 0}}}},
     {48, "", REFUSED(2, 0), {0, 0, 1, 0, {{0, 0}}}},
@@ -220,10 +221,10 @@ static const struct write_row {
 } write_rows[] = {
     {"as it is", REF_RECORD_CAT, 48, 3, OK(3)},
     {"no room", REF_RECORD_CAT, 48, 2, REFUSED(11, 0)},
-    {"too wide", REF_RECORD_NUMBERS + 67, 4, 3, REFUSED(10, 0)},
-    {"too wide, before the room", REF_RECORD_NUMBERS + 67, 4, 0, REFUSED(10, 0)},
-    {"below 0", REF_RECORD_NUMBERS + 67, -1, 3, REFUSED(10, 0)},
-    {"a number of an absent item", REF_RECORD_NUMBERS + 76, 1, 52, REFUSED(10, 0)},
+    {"too wide", REF_RECORD_NUMBERS + REF_048_M4E, 4, 3, REFUSED(10, 0)},
+    {"too wide, before the room", REF_RECORD_NUMBERS + REF_048_M4E, 4, 0, REFUSED(10, 0)},
+    {"below 0", REF_RECORD_NUMBERS + REF_048_M4E, -1, 3, REFUSED(10, 0)},
+    {"a number of an absent item", REF_RECORD_NUMBERS + REF_048_ERR, 1, 52, REFUSED(10, 0)},
     {"no parts", REF_RECORD_PARTS + 2, 0, 52, REFUSED(10, 0)},
     {"parts of an absent item", REF_RECORD_PARTS + 7, 1, 52, REFUSED(10, 0)},
     {"parts 257, whose low octet is right", REF_RECORD_PARTS + 2, 257, 52, REFUSED(10, 0)},
@@ -240,7 +241,7 @@ static const struct write_row {
 
 static void test_write(void)
 {
-    static const struct record m4e = {48, 0x20, 3, 1, {{67, 3}}};
+    static const struct record m4e = {48, 0x20, 3, 1, {{REF_048_M4E, 3}}};
     static const size_t others[] = {0, 1, 86, 88};
     struct octets field = hex("03 20 06");
     for (size_t i = 0; i < COUNT(write_rows); i++) {
