@@ -1,7 +1,8 @@
 // Small total functions on octets and numbers that the layers above share.
-// Promises: each is one equation on numbers. Stands on nothing.
+// Promises: each is one equation. Stands on nothing.
 ghost use mathlib.Core.Path.{_≡_};
 ghost use Prim.Native.Nat.{_-_, _%_, _<_};
+ghost use lib.ListN.{take};
 
 // An octet as a number.
 pub fn wide(o: u8) -> usize
@@ -46,4 +47,14 @@ pub fn less64(a: u64, b: u64) -> u64
         return a - b;
     }
     0
+}
+
+// At most so many octets in front.
+pub fn front<'a>(s: &'a [u8], n: usize) -> &'a [u8]
+    ensures { λ r. ⌜ now r ≡ take n (now (s .entry)) ⌝ }
+{
+    if n < s.len() {
+        return &s[..n];
+    }
+    s
 }

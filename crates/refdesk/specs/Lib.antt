@@ -1,0 +1,2 @@
+-- What is held of the input between two reads.
+pub mod Turns
