@@ -14,7 +14,7 @@ PROMISES = [
     ("codec", "the definitions of the format: laws of codecs, chains, frames and edits"),
     ("layout", "the papers as data, the categories' numbers, `present`, `with_item`, `without_item`, `number_at`, `is_one`"),
     ("scope", "01's operations as definitions: the edge octets and sheets computed from them"),
-    ("promises", "the three demands as theorems"),
+    ("demands", "the three demands, and that the program which `scope` defines meets them"),
     ("lengths", "`format_of`"),
     ("shapes", "`shape_at`, `spot_at`, `spot_of`"),
     ("reader", "`read`, `survey`"),
@@ -27,6 +27,7 @@ PROMISES = [
     ("words", "`word`, `after`, `first`, `behind`, `behind_all`, `is_same`, `number`, `signed`, `octets`"),
     ("answers", "`answer`"),
     ("exports", "`ref_read`, `ref_write`, `ref_view`, `ref_choose`, `ref_remove`, `ref_replace`, `ref_sheet`"),
+    ("promises", "the code computes the program of the demands, and each promise allows one result"),
     ("listing", "the private function behind `main`: what is written is the sheet of what was read"),
     ("say", "ends without a fault"),
     ("ask", "`octet_at`, `count_at`, `long_count_at`, `filled`"),
@@ -37,7 +38,7 @@ FIVE = [
     ("a reader or desk that refuses everything", "`reader/refuses_all`, `desk/refuses_all`"),
     ("a reader with one fixed record", "`reader/fixed_record`"),
     ("a sheet with one fixed angle", "`sheet/fixed_angle`, `angle/fixed`"),
-    ("a desk that copies the field through and edits nothing", "`desk/copies_field`; as a theorem `copied-through` (promises: `Edited`)"),
+    ("a desk that copies the field through and edits nothing", "`desk/copies_field`; as a theorem `copied-through` (demands: `Edited`)"),
     ("a writer that writes nothing", "`writer/writes_nothing`"),
 ]
 

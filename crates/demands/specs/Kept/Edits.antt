@@ -41,13 +41,13 @@ use Rattle.scope.specs.Desk.{listed, afresh, editIn, editOf, Edited}
 use Rattle.scope.specs.Laws.Reading.{Read, read-made, read-front, read-then-write}
 use Rattle.scope.specs.Laws.Edits.{Edit, edit-splice, edit-read, edited-octets, edit-afresh}
 use Rattle.scope.specs.Laws.Views.{field-is}
-use Rattle.promises.specs.Edited.{edit-done, others-kept}
-use Rattle.promises.specs.Kept.Fields.{holds-field, field-holds, flatten-is}
-use Rattle.promises.specs.Kept.Refusals.{alone-octets}
-use Rattle.promises.specs.Kept.Parts.{parts-with}
-use Rattle.promises.specs.Terms.{recordOf, IsField, bitOf, withBit}
-use Rattle.promises.specs.Defined.{handed, program}
-use Rattle.promises.specs.Demands.{parts, NewItem, removal, correct, Taken, Edits, Demand3}
+use Rattle.demands.specs.Edited.{edit-done, others-kept}
+use Rattle.demands.specs.Kept.Fields.{holds-field, field-holds, flatten-is}
+use Rattle.demands.specs.Kept.Refusals.{alone-octets}
+use Rattle.demands.specs.Kept.Parts.{parts-with}
+use Rattle.demands.specs.Terms.{recordOf, IsField, bitOf, withBit}
+use Rattle.demands.specs.Defined.{handed, program}
+use Rattle.demands.specs.Demands.{parts, NewItem, removal, correct, Taken, Edits, Demand3}
 
 -- ---- one bit of an indicator
 

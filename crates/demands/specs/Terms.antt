@@ -42,7 +42,7 @@ pub use Rattle.layout.specs.declared.Choice.{Choice}
 -- the record of a refused field; the sheet's text; the angle that is nearest, halves away from zero
 pub use Rattle.scope.specs.Reading.{noRecord}
 pub use Rattle.scope.specs.Sheet.{sheetOf}
-pub use Rattle.promises.specs.Angles.{Nearest}
+pub use Rattle.demands.specs.Angles.{Nearest}
 
 -- ---- fields of a category
 

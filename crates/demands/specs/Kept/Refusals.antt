@@ -35,10 +35,10 @@ use Rattle.scope.specs.Sheet.{sheetOf}
 use Rattle.scope.specs.Laws.Reading.{Read, read-made, read-front}
 use Rattle.scope.specs.Laws.Refusals.{place-within}
 use Rattle.scope.specs.Laws.Views.{front-length}
-use Rattle.promises.specs.Terms.{recordOf, IsField, Fault, numbered, bitOf, refusedBy}
-use Rattle.promises.specs.Demands.{Shows, Chooses, WrongNew, no-octets, too-many, no-item, OfFault, OfField, OfFields, Demand1}
-use Rattle.promises.specs.Defined.{handed, program}
-use Rattle.promises.specs.Kept.Fields.{holds-body, holds-field, fault-refused, field-writable, written-field, judged, numbers}
+use Rattle.demands.specs.Terms.{recordOf, IsField, Fault, numbered, bitOf, refusedBy}
+use Rattle.demands.specs.Demands.{Shows, Chooses, WrongNew, no-octets, too-many, no-item, OfFault, OfField, OfFields, Demand1}
+use Rattle.demands.specs.Defined.{handed, program}
+use Rattle.demands.specs.Kept.Fields.{holds-body, holds-field, fault-refused, field-writable, written-field, judged, numbers}
 
 -- ---- a refusal is handed on, and the output is as it was
 

@@ -31,7 +31,7 @@ use Rattle.layout.specs.Laws.Record.{length-parts, length-numbers, lawful-conte
 use Rattle.scope.specs.Reading.{fieldOf, readOf}
 use Rattle.scope.specs.Writing.{writable, written}
 use Rattle.scope.specs.Laws.Reading.{read-found, kept-made, read-then-write, write-then-read}
-use Rattle.promises.specs.Terms.{recordOf, IsField, Fault, unknown, in-field, Judged, a-field, no-field}
+use Rattle.demands.specs.Terms.{recordOf, IsField, Fault, unknown, in-field, Judged, a-field, no-field}
 
 abbrev pub Holds : ℕ → List ℕ → Contents → Type 0
 Holds cat s r = HasLayout (printedOf cat) (take (lenOf s) s) r

@@ -1,15 +1,16 @@
 -- The three demands of the mission, each sentence quoted above its statements. They are of a program: of what its
--- operations compute, for every input. Top says that the code computes one, without a fault, and that it meets them.
+-- operations compute, for every input. Top (promises) says that the code computes one, without a fault, and that it
+-- meets them.
 -- Octets s: each element is below 256, as in every slice of octets. Terms has the words and where each is defined.
-use Rattle.promises.specs.Terms.{_≡_, _≢_, false, List, [], _∷_, _++_, ℕ, zero, suc, _+_, _-_, _≤_, _<_, T, ℤ}
-use Rattle.promises.specs.Terms.{length, take, drop, set, Octets, lenOf, Whole, Change, remove, put, alone}
-use Rattle.promises.specs.Terms.{newOctets, newFlag, Entry, IsItem, zerosIn, HasLayout, Contents, known}
-use Rattle.promises.specs.Terms.{printedOf}
-use Rattle.promises.specs.Terms.{itemsOf, Record, Reading, Answer, Accepted, Refused, View, Shown, Hidden}
-use Rattle.promises.specs.Terms.{Which, Choice}
-use Rattle.promises.specs.Terms.{Neither, Base, Correction, noRecord, sheetOf, Nearest, recordOf, IsField}
-use Rattle.promises.specs.Terms.{HasField, Fault}
-use Rattle.promises.specs.Terms.{Judged, numbered, bitOf, withBit, refusedBy, handedOut}
+use Rattle.demands.specs.Terms.{_≡_, _≢_, false, List, [], _∷_, _++_, ℕ, zero, suc, _+_, _-_, _≤_, _<_, T, ℤ}
+use Rattle.demands.specs.Terms.{length, take, drop, set, Octets, lenOf, Whole, Change, remove, put, alone}
+use Rattle.demands.specs.Terms.{newOctets, newFlag, Entry, IsItem, zerosIn, HasLayout, Contents, known}
+use Rattle.demands.specs.Terms.{printedOf}
+use Rattle.demands.specs.Terms.{itemsOf, Record, Reading, Answer, Accepted, Refused, View, Shown, Hidden}
+use Rattle.demands.specs.Terms.{Which, Choice}
+use Rattle.demands.specs.Terms.{Neither, Base, Correction, noRecord, sheetOf, Nearest, recordOf, IsField}
+use Rattle.demands.specs.Terms.{HasField, Fault}
+use Rattle.demands.specs.Terms.{Judged, numbered, bitOf, withBit, refusedBy, handedOut}
 
 -- what the operations compute. An operation with an output is given what stands there before, and gives its answer
 -- and what stands there afterwards

@@ -17,9 +17,9 @@ use Rattle.layout.specs.Papers.{paperOf, itemsOf}
 use Rattle.scope.specs.Views.{isItem}
 use Rattle.scope.specs.Laws.Reading.{Read, read-front}
 use Rattle.scope.specs.Laws.Views.{field-is, part-is-text}
-use Rattle.promises.specs.Terms.{numbered}
-use Rattle.promises.specs.Demands.{parts}
-use Rattle.promises.specs.Defined.{program}
+use Rattle.demands.specs.Terms.{numbered}
+use Rattle.demands.specs.Demands.{parts}
+use Rattle.demands.specs.Defined.{program}
 
 module _ {cat : ℕ} {s : List ℕ} {n : ℕ} (o : Octets s) (r : Read cat s n) where
   abbrev ts : List (List ℕ)

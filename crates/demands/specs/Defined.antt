@@ -11,7 +11,7 @@ use Rattle.scope.specs.Views.{viewOf, partOf, chooseOf, chosenOf}
 use Rattle.scope.specs.Desk.{editOf}
 use Rattle.scope.specs.Sheet.{sheetOf}
 use Rattle.scope.specs.Angle.{udegOf}
-use Rattle.promises.specs.Demands.{Program}
+use Rattle.demands.specs.Demands.{Program}
 
 -- an outcome, and the output that was lent
 abbrev pub handed : Outcome (List ℕ) → List ℕ → Answer × List ℕ

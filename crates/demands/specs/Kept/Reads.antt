@@ -19,15 +19,15 @@ use Rattle.scope.specs.Sheet.{sheetOf}
 use Rattle.scope.specs.Laws.Reading.{read-front}
 use Rattle.scope.specs.Laws.Views.{front-length, view-present, part-is-text, choice-correction, choice-base}
 use Rattle.codec.specs.Laws.Tests.{holds}
-use Rattle.promises.specs.Angles.{angle-nearest}
-use Rattle.promises.specs.RoundTrips.{written-reads}
-use Rattle.promises.specs.Terms.{recordOf, IsField, numbered, bitOf}
-use Rattle.promises.specs.Demands.{parts, Reads, Demand2}
-use Rattle.promises.specs.Defined.{handed, program}
-use Rattle.promises.specs.Kept.Fields.{accepted-is-field, is-field-accepted, field-writable}
-use Rattle.promises.specs.Kept.Refusals.{reading, items-are, absent-is, present-here}
-use Rattle.promises.specs.Kept.Parts.{field-parts, before-parts}
-use Rattle.promises.specs.Kept.Behind.{read-behind, view-behind, part-behind, choose-behind, edit-behind, sheet-behind}
+use Rattle.demands.specs.Angles.{angle-nearest}
+use Rattle.demands.specs.RoundTrips.{written-reads}
+use Rattle.demands.specs.Terms.{recordOf, IsField, numbered, bitOf}
+use Rattle.demands.specs.Demands.{parts, Reads, Demand2}
+use Rattle.demands.specs.Defined.{handed, program}
+use Rattle.demands.specs.Kept.Fields.{accepted-is-field, is-field-accepted, field-writable}
+use Rattle.demands.specs.Kept.Refusals.{reading, items-are, absent-is, present-here}
+use Rattle.demands.specs.Kept.Parts.{field-parts, before-parts}
+use Rattle.demands.specs.Kept.Behind.{read-behind, view-behind, part-behind, choose-behind, edit-behind, sheet-behind}
 
 module _ (cat : ℕ) (s : List ℕ) (o : Octets s) (f : Record) (h : IsField cat s f) where
   same-category : f .cat ≡ cat
