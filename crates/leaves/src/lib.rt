@@ -27,7 +27,8 @@ pub fn octet(n: usize) -> u8
 pub fn octet64(n: u64) -> u8
     ensures { λ r. ⌜ r ≡ n % 256 ⌝ }
 {
-    (n % 256) as u8
+    let low = n % 256;
+    low as u8
 }
 
 // What is left of a number after another is taken away, nothing where the other is larger.
@@ -43,10 +44,10 @@ pub fn less(a: usize, b: usize) -> usize
 pub fn less64(a: u64, b: u64) -> u64
     ensures { λ r. ⌜ r ≡ a - b ⌝ }
 {
-    if b < a {
-        return a - b;
+    if a <= b {
+        return 0;
     }
-    0
+    a - b
 }
 
 // At most so many octets in front.
