@@ -130,14 +130,24 @@ def pipe_gets_full(program):
         return judged(f"{program}, a pipe that gets full and does not wait", process, told, front)
 
 
+WRITES = (
+    ("a full pipe that does not wait", full_pipe),
+    ("a pipe that nobody reads", unread_pipe),
+    ("a full device", lambda: opened("/dev/full", os.O_WRONLY)),
+)
+READS = (
+    ("a directory to read", lambda: opened("/", os.O_RDONLY)),
+    ("a file that is not open to read", lambda: opened("/dev/null", os.O_WRONLY)),
+)
+
+
 def failures(refdesk, listing):
     """How many of the cases go wrong."""
     wrong = pipe_gets_full(refdesk)
     for program, octets, ends in ((refdesk, REQUEST, False), (listing, WORKED, True)):
-        for why, stdout in (("a full pipe that does not wait", full_pipe()), ("a pipe that nobody reads", unread_pipe()), ("a full device", opened("/dev/full", os.O_WRONLY))):
-            wrong += write_fails(why, program, pipe(octets, ends), stdout)
-        wrong += read_fails("a directory to read", program, opened("/", os.O_RDONLY))
-        wrong += read_fails("a file that is not open to read", program, opened("/dev/null", os.O_WRONLY))
-    wrong += read_fails("a read that fails behind ten requests and a part", refdesk, pipe(10 * REQUEST + CUT, False, False), answers(10 * REQUEST).encode())
-    wrong += read_fails("a read that fails behind a part of the input", listing, pipe(WORKED[:4], False, False))
+        wrong += sum(write_fails(why, program, pipe(octets, ends), stdout()) for why, stdout in WRITES)
+        wrong += sum(read_fails(why, program, stdin()) for why, stdin in READS)
+    ten = 10 * REQUEST
+    wrong += read_fails("a read that fails behind ten requests and a part", refdesk, pipe(ten + CUT, ends=False, waits=False), answers(ten).encode())
+    wrong += read_fails("a read that fails behind a part of the input", listing, pipe(WORKED[:4], ends=False, waits=False))
     return wrong
