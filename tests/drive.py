@@ -117,7 +117,7 @@ def fed(desk, rng, asked):
     """Pieces that end anywhere, each sent when the one before it was taken, so that the program's reads end there too."""
     at = 0
     while at < len(asked):
-        size = rng.choice([1, 2, rng.randrange(1, 100), rng.randrange(1, 5000), rng.randrange(1, 70000)])
+        size = int(2 ** rng.uniform(0, 13)) if rng.randrange(50) else 70000
         desk.stdin.write(asked[at:at + size])
         desk.stdin.flush()
         at += size
@@ -138,14 +138,14 @@ def in_pieces(program, rng, made):
 def one_at_a_time(program, rng, made):
     """Each answer before the next request; the last line has no end, and is answered at the end of the input."""
     with started(program, stdin=PIPE, stdout=PIPE) as desk:
-        told = b""
+        told = []
         for line in made[:-1]:
             desk.stdin.write(line + b"\n")
             desk.stdin.flush()
-            told += desk.stdout.readline()
+            told.append(desk.stdout.readline())
         desk.stdin.write(made[-1])
         desk.stdin.close()
-        return told + desk.stdout.read(), desk.wait()
+        return b"".join(told) + desk.stdout.read(), desk.wait()
 
 
 def differences(way, program, rng, made, wanted):
