@@ -29,7 +29,8 @@ PROMISES = [
     ("requests", "`answer`"),
     ("exports", "`ref_read`, `ref_write`, `ref_view`, `ref_choose`, `ref_remove`, `ref_replace`, `ref_sheet`"),
     ("listing", "the private function behind `main`: what is written is the sheet of what was read"),
-    ("refdesk", "how lines are joined from what each read brings"),
+    ("lines", "`join`: the lines of the input, from what each read brings"),
+    ("refdesk", "the private functions behind `main`: what is held between two reads is the front of a line"),
 ]
 
 # 01, 'How firm each promise is': "These must be unable to meet it"
