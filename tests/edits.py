@@ -1,29 +1,23 @@
-#!/usr/bin/env python3
-"""Makes the requests of the program `edits` and the lines that it has to answer, from tests/reference.py and tests/papers.py alone.
+"""Requests that edit, `remove` and `replace`, from tests/reference.py and tests/papers.py alone, the same at every run.
 
-Writes crates/edits/stdin and crates/edits/stdout, the same octets at every run. crates/edits/src/main.rt says what a request is.
-An edit is (category, field, list, item number, new octets), None for a removal; a request has the room of the output before it. A generator below
-gives edits, or requests where the room matters; its first line says what it aims at. In room enough those of ROOMED and RIGHT are accepted, those of
+An edit is (category, field, list, item number, new octets), None for a removal; a vector has the room of the output before it. A generator below
+gives edits, or vectors where the room matters; its first line says what it aims at. In room enough those of ROOMED and RIGHT are accepted, those of
 WRONG refused by 14.
 """
 import functools
 import itertools
 import random
 from collections import defaultdict
-from pathlib import Path
 
-from fields import (
-    UNKNOWN, drawn, field_of, full_field, good_field, good_item, item_octets, items_alone, ones, whole_item, write_requests,
-)
+from fields import UNKNOWN, drawn, field_of, full_field, good_field, good_item, item_octets, items_alone, ones, whole_item
 from papers import PAPERS
-from records import EMPTY, ROOM, answer_text, bit_of
+from reads import bad_fields, chain_over, damaged, numbers_at_their_ends, spare_set, subfields_alone
+from records import EMPTY, ENOUGH, bit_of
 from reference import edit, read, view
-from vectors import bad_fields, chain_over, damaged, numbers_at_their_ends, spare_set, subfields_alone
 
-CRATE = Path(__file__).resolve().parent.parent / "crates" / "edits"
 ALL = 0xFF  # the list with every place set
 RANDOM = 20  # edits of each random kind and category
-ENOUGH = 16  # room for what any edit of a small field gives
+FEW = 16  # room for what any edit of a small field gives
 BASE = bytes.fromhex("06 28 06 01 00 00")
 WORKED = [  # 01, the edits of BASE in category 48: list, item, new octets, then the octets or the refusal
     (0xFF, 5, "02 00 00", "06 28 06 02 00 00"),
@@ -214,14 +208,14 @@ def every_combination(cat):
     for item in [*numbers_of(cat), *wrong_numbers(cat)]:
         own = bit_of(item - 1) if item in numbers_of(cat) else ALL
         right = few(cat).get(item - 1, few(cat)[0])
-        for listed, new, room in itertools.product((own, ALL ^ own), (right, right + b"\0", None), (ENOUGH, 1)):
+        for listed, new, room in itertools.product((own, ALL ^ own), (right, right + b"\0", None), (FEW, 1)):
             yield room, cat, small(cat), listed, item, new
 
 
 def field_first(cat, field):
     """A refused field with nothing else due, and with all of 12, 13, 14, 11."""
     right = few(cat)[2] if cat in PAPERS else b"\x06"
-    yield from ((ENOUGH, cat, field, ALL, 3, new) for new in (right, None))
+    yield from ((FEW, cat, field, ALL, 3, new) for new in (right, None))
     yield from ((0, cat, field, 0, 9, new) for new in (b"", None))
 
 
@@ -259,7 +253,7 @@ def in_rooms(source):
 def fit(source):
     """A room that what could be written fits into."""
     _, field, _, _, new = source
-    return min(ROOM, len(field) + len(new or b"") + 1)
+    return min(ENOUGH, len(field) + len(new or b"") + 1)
 
 
 def worked():
@@ -280,7 +274,7 @@ def drawn_edits(cat, rng):
         yield room, cat, field, rng.choice([ALL, bit_of(item - 1), rng.randrange(256)]), item, new
 
 
-def requests_of(cat, rng):
+def vectors_of(cat, rng):
     for kind in ROOMED:
         yield from itertools.chain.from_iterable(map(in_rooms, kind(cat)))
     for kind in (*RIGHT, *WRONG, lists):
@@ -291,33 +285,27 @@ def requests_of(cat, rng):
     yield from drawn_edits(cat, rng)
 
 
-def requests():
+def vectors():
     rng = random.Random(21048007)
     yield from worked()
     for cat in PAPERS:
-        yield from requests_of(cat, rng)
+        yield from vectors_of(cat, rng)
     yield from unknown()
 
 
-def packed(request):
-    room, cat, field, listed, item, new = request
-    octets = new or b""
-    head = bytes([new is not None, room, cat, listed, item]) + len(field).to_bytes(2, "big") + len(octets).to_bytes(2, "big")
-    return head + field + octets
-
-
-# ---- the lines that are wanted
-
-def line_of(request):
-    room, *source = request
-    return answer_text(edit(*source, room), room)
+def requests():
+    for room, cat, field, listed, item, new in vectors():
+        if new is None:
+            yield (b"remove", cat, field, listed, item, room)
+        else:
+            yield (b"replace", cat, field, listed, item, new, room)
 
 
 # ---- what the edits reach
 
-def refusal_due(request):
+def refusal_due(vector):
     """The first refusal that applies, as (number, place), or None: by 01's order, without the operation's own code."""
-    room, cat, field, listed, item, new = request
+    room, cat, field, listed, item, new = vector
     reading = read(cat, field)
     if reading[0] != "ok":
         return reading[1:]
@@ -330,51 +318,37 @@ def refusal_due(request):
     return (11, 0) if len(spliced(cat, field, item, new)) > room else None
 
 
-def checked(request):
+def checked(vector):
     """The refusal, 0 for none; held against the one that is due, and what is written against the field's own octets and every item's view."""
-    room, cat, field, listed, item, new = request
-    got, refusal = edit(cat, field, listed, item, new, room), refusal_due(request)
+    room, cat, field, listed, item, new = vector
+    got, refusal = edit(cat, field, listed, item, new, room), refusal_due(vector)
     if refusal:
-        assert got == ("refused", *refusal), request
+        assert got == ("refused", *refusal), vector
         return got[1]
-    assert got == ("ok", spliced(cat, field, item, new)), request
+    assert got == ("ok", spliced(cat, field, item, new)), vector
     for k in numbers_of(cat):
         before, behind = view(cat, field, k), view(cat, got[1], k)
         if k != item:
-            assert behind[0] == before[0] and behind[3:] == before[3:], request
+            assert behind[0] == before[0] and behind[3:] == before[3:], vector
         elif new is None:
-            assert behind == ("refused", 15, 0), request
+            assert behind == ("refused", 15, 0), vector
         else:
-            assert behind[3:] == (new,), request
+            assert behind[3:] == (new,), vector
     return 0
 
 
-def covered(made):
+def covered():
     """Each generator makes what it says; each answer is there often in each category; spare places of the list have no effect."""
     counts = defaultdict(int)
-    for request in made:
-        counts[request[1] if request[1] in PAPERS else None, checked(request)] += 1
+    for vector in dict.fromkeys(vectors()):
+        counts[vector[1] if vector[1] in PAPERS else None, checked(vector)] += 1
     for cat in PAPERS:
-        assert all(checked((ROOM, *source)) == 0 for kind in ROOMED + RIGHT for source in kind(cat))
-        assert all(checked((ROOM, *source)) == 14 for kind in WRONG for source in kind(cat))
-        assert all(checked(request) != (11 if request[0] == ENOUGH else 0) for request in every_combination(cat))
+        assert all(checked((ENOUGH, *source)) == 0 for kind in ROOMED + RIGHT for source in kind(cat))
+        assert all(checked((ENOUGH, *source)) == 14 for kind in WRONG for source in kind(cat))
+        assert all(checked(vector) != (11 if vector[0] == FEW else 0) for vector in every_combination(cat))
         assert min(counts[cat, answer] for answer in (0, 11, 12, 13, 14)) >= 30
         never = {4, 8} if cat == 21 else set()  # it has no spare place and no number with limits
         assert all(counts[cat, number] >= 4 for number in set(range(2, 10)) - never)
         for _, field, listed, item, new in lists(cat):
-            assert len({edit(cat, field, listed ^ spare, item, new, ROOM) for spare in range(spare_places(cat) + 1)}) == 1
-    return counts
-
-
-def main():
-    made = list(dict.fromkeys(requests()))
-    counts = covered(made)
-    octets = write_requests(CRATE, made, packed, line_of)
-    for cat in PAPERS:
-        refused = " ".join(f"{number}:{counts[cat, number]}" for number in range(2, 15) if counts[cat, number])
-        print(f"category {cat}: {counts[cat, 0]} accepted; refused by {refused}")
-    print(f"{len(made)} requests, {counts[None, 1]} of them refused by 1, {octets}")
-
-
-if __name__ == "__main__":
-    main()
+            assert len({edit(cat, field, listed ^ spare, item, new, ENOUGH) for spare in range(spare_places(cat) + 1)}) == 1
+    assert counts[None, 1] >= 30

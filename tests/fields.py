@@ -5,7 +5,6 @@ An item is (name, chain parts, subfields) and a number (name, high bit, low bit,
 from papers import PAPERS
 from reference import lay_item
 
-BUFFER = 65536  # what a program of the tests reads at most
 UNKNOWN = [0, 1, 6, 8, 20, 22, 47, 49, 255]
 
 
@@ -99,13 +98,3 @@ def good_item(item, rng):
 def good_field(cat, rng):
     """Any items, each as any that the paper allows."""
     return field_of({i: good_item(item, rng) for i, item in enumerate(PAPERS[cat]) if rng.randrange(2)})
-
-
-def write_requests(crate, made, packed, line_of):
-    """What the program of a crate is asked and has to answer; the octets of both."""
-    asked = b"".join(map(packed, made))
-    assert len(asked) <= BUFFER, len(asked)
-    told = "".join(line_of(request) + "\n" for request in made)
-    (crate / "stdin").write_bytes(asked)
-    (crate / "stdout").write_text(told)
-    return f"{len(asked)} octets asked, {len(told)} octets told"

@@ -37,13 +37,15 @@ PROMISES = [
     ("desk", "`remove`, `replace`"),
     ("text", "`octet`, `word`, `decimal`, `signed`, `octets`, `line_end`, `pair`, `signed_pair`; the longest sheet"),
     ("sheet", "`sheet`"),
-    ("words", "`word`, `after`, `first`, `behind`, `behind_all`, `is_same`, `number`, `signed`, `octets`"),
-    ("answers", "`answer`"),
+    ("words", "the words of a line, and the number, octets or list that a word writes"),
+    ("protocol", "`parse`: the request that a line is, or the number of its first wrong word"),
+    ("replies", "the text of each answer"),
+    ("requests", "`answer`"),
     ("exports", "`ref_read`, `ref_write`, `ref_view`, `ref_choose`, `ref_remove`, `ref_replace`, `ref_sheet`"),
     ("promises", "the code computes the program of the demands, and each promise allows one result"),
     ("listing", "the private function behind `main`: what is written is the sheet of what was read"),
-    ("say", "ends without a fault"),
-    ("ask", "`octet_at`, `count_at`, `long_count_at`, `filled`"),
+    ("lines", "`join`: the lines of the input, from what each read brings"),
+    ("refdesk", "the private functions behind `main`: what is held between two reads is the front of a line"),
 ]
 
 # 01, 'How firm each promise is': "These must be unable to meet it"
@@ -192,9 +194,6 @@ def main(words):
             why, pairs = parts(edit)
             what = "; ".join(changed(*pair) for pair in pairs)
             print(f"| `{edit.stem}` | {what} | {why} | {refused_in(crate, edit.stem)} |")
-    print("\n## Exceptions to uniqueness\n")
-    print("The functions of `say` write words to standard output; what a program writes can't be promised, and is "
-          "compared with its `stdout`. No other public function is without an equation that allows one result.")
 
 
 if __name__ == "__main__":

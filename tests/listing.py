@@ -1,24 +1,23 @@
 #!/usr/bin/env python3
 """Runs the built program `listing` on inputs of many lengths, whole and in pieces, and holds each sheet against tests/reference.py: one figure.
 
-    rt check listing && python3 tests/listing.py
+    python3 tests/listing.py
 
-It runs outside `rt ci`, which gives the program 01's worked octets alone. A piece is written a moment after the one before it, so that most
+`rt ci` gives the program 01's worked octets alone. A piece is written a moment after the one before it, so that most
 reads of the program get less than they ask for. Behind 256 octets the pipe stays open: the program must not wait for its end.
 """
 import os
-import subprocess
 import sys
 import threading
 import time
-from pathlib import Path
+from subprocess import PIPE
 
 from fields import field_of, full_field, ones
 from papers import PAPERS
 from reference import sheet
 from sheets import WORKED, widest
+from started import started
 
-RUN = Path(__file__).resolve().parent.parent / "bin" / "run"
 MOMENT = 0.02  # seconds between two pieces
 LENGTHS = (0, 1, 2, 3, 7, 8, 38, 52, 53, 254, 255, 256, 257, 300)
 
@@ -52,27 +51,26 @@ def in_pieces(octets, size):
     return [octets[k:k + size] for k in range(0, len(octets), size)]
 
 
+def feed(program, pieces):
+    try:
+        for k, piece in enumerate(pieces):
+            time.sleep(MOMENT if k else 0)
+            os.write(program.stdin.fileno(), piece)
+    except BrokenPipeError:
+        pass  # the program has its 256 octets and is gone
+    if sum(map(len, pieces)) >= 256:
+        program.wait()
+    program.stdin.close()
+
+
 def listed(pieces):
     """What the program writes where its standard input is a pipe that gets these pieces one after the other."""
-    program = subprocess.Popen([str(RUN), "listing"], stdin=subprocess.PIPE, stdout=subprocess.PIPE)
-    enough = sum(map(len, pieces)) >= 256
-
-    def feed():
-        try:
-            for k, piece in enumerate(pieces):
-                time.sleep(MOMENT if k else 0)
-                os.write(program.stdin.fileno(), piece)
-        except BrokenPipeError:
-            pass  # the program has its 256 octets and is gone
-        if enough:
-            program.wait()
-        program.stdin.close()
-
-    feeder = threading.Thread(target=feed)
-    feeder.start()
-    told = program.stdout.read().decode()
-    feeder.join()
-    assert program.wait() == 0, pieces
+    with started("listing", stdin=PIPE, stdout=PIPE) as program:
+        feeder = threading.Thread(target=feed, args=(program, pieces))
+        feeder.start()
+        told = program.stdout.read().decode()
+        feeder.join()
+        assert program.wait() == 0, pieces
     return told
 
 

@@ -1,27 +1,22 @@
-#!/usr/bin/env python3
-"""Makes the requests of the program `records` and the lines that it has to answer, from tests/reference.py and tests/papers.py alone.
+"""Requests that write a record, from tests/reference.py and tests/papers.py alone, the same at every run.
 
-Writes crates/records/stdin and crates/records/stdout, the same octets at every run. crates/records/src/main.rt says what a request is.
 A source is (category, field, changes): the record that the field reads to, then each (place, value) in order. A generator below gives sources; its
-first line says what it aims at. Those of ROOMED and RIGHT make records that a field reads to, those of WRONG make others.
+first line says what it aims at. Those of ROOMED and RIGHT make records that a field reads to, those of WRONG make others. `vectors` has a room in
+front of each source.
 """
 import itertools
 import random
 from collections import defaultdict
-from pathlib import Path
 
 from fields import (
-    UNKNOWN, field_of, flags_in, full_field, good_field, item_octets, items_alone, least_count, limits, lowest, ones, single_bits, whole_item, width,
-    write_requests, zero,
+    UNKNOWN, field_of, flags_in, full_field, good_field, item_octets, items_alone, least_count, limits, lowest, ones, single_bits, whole_item, width, zero,
 )
 from papers import PAPERS
 from reference import SLOTS, lay_record, read, size, write
 from specimens import specimen
 
-CRATE = Path(__file__).resolve().parent.parent / "crates" / "records"
 PARTS, ITEMS, CATEGORY = 77, 85, 86  # the places behind the numbers' slots
-ROOM = 64  # the program's longest output
-FILL = b"\xEE"
+ENOUGH = 64  # room for every field
 RANDOM = 16  # sources of each random kind and category
 EMPTY = b"\x02\x00"
 
@@ -297,10 +292,10 @@ def in_rooms(source):
 
 
 def in_many_rooms(cat):
-    """A full field and an empty one, in rooms from nothing to the longest output."""
+    """A full field and an empty one, in rooms from nothing to more than any field needs."""
     full = full_field(cat, lowest)
-    yield from ((room, cat, full, ()) for room in (1, 2, len(full) // 2, len(full) - 2, len(full), ROOM))
-    yield from ((room, cat, EMPTY, ()) for room in (0, 1, 2, 3, ROOM))
+    yield from ((room, cat, full, ()) for room in (1, 2, len(full) // 2, len(full) - 2, len(full), ENOUGH))
+    yield from ((room, cat, EMPTY, ()) for room in (0, 1, 2, 3, ENOUGH))
 
 
 def short_of_room(cat):
@@ -319,7 +314,7 @@ def unknown():
             yield from ((room, known, field, changes + ((CATEGORY, cat),)) for room in (0, fit((known, field, changes))))
 
 
-def requests_of(cat, rng):
+def vectors_of(cat, rng):
     for kind in ROOMED:
         yield from itertools.chain.from_iterable(map(in_rooms, kind(cat)))
     yield from in_many_rooms(cat)
@@ -330,31 +325,17 @@ def requests_of(cat, rng):
         yield (max(0, fit(source) - rng.choice([0, 1, 2, 2, 3, 4])), *source)
 
 
-def requests():
+def vectors():
     rng = random.Random(7021048)
     for cat in PAPERS:
-        yield from requests_of(cat, rng)
+        yield from vectors_of(cat, rng)
     yield from unknown()
 
 
-def packed(request):
-    room, cat, field, changes = request
-    told = b"".join(bytes([place]) + value.to_bytes(4, "big", signed=True) for place, value in changes)
-    return bytes([room, cat, len(field), len(changes)]) + field + told
-
-
-# ---- the lines that are wanted
-
-def answer_text(got, room):
-    """The answer of an operation with an output of this room, and every octet of the output."""
-    output = (got[1] if got[0] == "ok" else b"").ljust(room, FILL)
-    answer = f"ok {len(got[1])}" if got[0] == "ok" else f"refused {got[1]} at {got[2]}"
-    return answer + "".join(f" {o:02X}" for o in output)
-
-
-def line_of(request):
-    room, *source = request
-    return answer_text(write(record_of(source), room), room)
+def requests():
+    for room, *source in vectors():
+        cat, items, parts, numbers = record_of(source)
+        yield (b"write", room, cat, items, *parts, *numbers)
 
 
 # ---- what the records reach
@@ -378,40 +359,27 @@ def can_be_read(record):
     return True
 
 
-def checked(request):
+def checked(vector):
     """The answer, 0 for ok; held against can_be_read, and the written octets against the record."""
-    room, *source = request
+    room, *source = vector
     record = record_of(source)
     got = write(record, room)
     if record[0] in PAPERS:
-        assert (got[:2] != ("refused", 10)) == can_be_read(record), request
+        assert (got[:2] != ("refused", 10)) == can_be_read(record), vector
     if got[0] == "ok":
-        assert read(record[0], got[1]) == ("ok", len(got[1]), record), request
+        assert read(record[0], got[1]) == ("ok", len(got[1]), record), vector
         return 0
     return got[1]
 
 
-def covered(made):
+def covered():
     """Each generator makes what it says, each answer is there often in each category."""
     counts = defaultdict(int)
-    for request in made:
-        cat = record_of(request[1:])[0]
-        counts[cat if cat in PAPERS else None, checked(request)] += 1
+    for vector in dict.fromkeys(vectors()):
+        cat = record_of(vector[1:])[0]
+        counts[cat if cat in PAPERS else None, checked(vector)] += 1
     for cat in PAPERS:
-        assert all(checked((ROOM, *source)) == 0 for kind in ROOMED + RIGHT for source in kind(cat))
-        assert all(checked((ROOM, *source)) == 10 for kind in WRONG for source in kind(cat))
+        assert all(checked((ENOUGH, *source)) == 0 for kind in ROOMED + RIGHT for source in kind(cat))
+        assert all(checked((ENOUGH, *source)) == 10 for kind in WRONG for source in kind(cat))
         assert min(counts[cat, answer] for answer in (0, 10, 11)) >= 40
-    return counts
-
-
-def main():
-    made = list(dict.fromkeys(requests()))
-    counts = covered(made)
-    octets = write_requests(CRATE, made, packed, line_of)
-    for cat in PAPERS:
-        print(f"category {cat}: {counts[cat, 0]} written, {counts[cat, 10]} refused by 10, {counts[cat, 11]} by 11")
-    print(f"{len(made)} requests, {counts[None, 1]} of them refused by 1, {octets}")
-
-
-if __name__ == "__main__":
-    main()
+    assert counts[None, 1] >= 40

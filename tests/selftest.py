@@ -4,8 +4,8 @@ and the papers' data of crates/layout, as tests/slots.py takes it, held against 
 import slots
 from edits import BASE, WORKED
 from papers import MEASURES, PAPERS
+from reads import requests
 from reference import choose, edit, keys, read, sheet, size, SLOTS, spare_bits, udeg, view, write
-from vectors import READ, requests
 
 h = bytes.fromhex
 
@@ -229,9 +229,9 @@ for cat, items, parts, numbers, room, expected in WRITES:
     got = write(record, room)
     assert got == (("refused", expected, 0) if isinstance(expected, int) else ("ok", h(expected))), (record, got)
     checks += 1
-for kind, cat, _, field, _ in requests():  # what is read is written again, as it stood before LEN
+for name, cat, field, *_ in requests():  # what is read is written again, as it stood before LEN
     got = read(cat, field)
-    if kind == READ and got[0] == "ok":
+    if name == b"read" and got[0] == "ok":
         assert write(got[2], got[1]) == ("ok", field[:got[1]]), field
         checks += 1
 assert slots.differing() == [], "python3 tests/slots.py write"

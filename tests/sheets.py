@@ -1,29 +1,21 @@
-#!/usr/bin/env python3
-"""Makes the requests of the program `sheets` and what it has to answer, from tests/reference.py and tests/papers.py alone.
+"""Requests of a sheet, from tests/reference.py and tests/papers.py alone, the same at every run.
 
-Writes crates/sheets/stdin and crates/sheets/stdout, the same octets at every run. crates/sheets/src/main.rt says what a request is.
-An input is a category octet and a field; a request has the room of the output before it. A generator below gives fields of a category; its first
-line says what it aims at. Those of ROOMED get several rooms, the others one that is exactly the sheet's length.
+An input is a category octet and a field. A generator below gives fields of a category; its first line says what it aims at.
 """
 import itertools
 import random
-import re
 from collections import defaultdict
-from pathlib import Path
 
 from edits import few
 from fields import (
-    UNKNOWN, drawn, field_of, flags_in, full_field, good_field, item_octets, items_alone, least_count, limits, lowest, ones, whole_item,
-    write_requests, zero,
+    UNKNOWN, drawn, field_of, flags_in, full_field, good_field, item_octets, items_alone, least_count, limits, lowest, ones, whole_item, zero,
 )
 from papers import PAPERS
-from reference import keys, lay_item, read, sheet
-from vectors import (
+from reads import (
     bad_fields, behind_len, chain_over, damaged, limits_later, noise, numbers_at_their_ends, octets_left, orders, spare_set, subfields_alone,
 )
+from reference import keys, lay_item, sheet
 
-CRATE = Path(__file__).resolve().parent.parent / "crates" / "sheets"
-ROOM = 4096  # the program's longest output
 RANDOM = 30  # fields of each random kind and category
 LONGEST = {48: 959, 21: 971, 7: 571}  # the octets of each category's longest sheet
 WORKED = bytes.fromhex("30 06 28 06 01 00 00")
@@ -157,23 +149,13 @@ def refused(cat):
     yield from bad_fields(cat)
 
 
-ROOMED = (no_items, full, items_alone, subfields_alone, refused)
-PLAIN = (
-    every_indicator, numbers_at_their_ends, decimals, angles, both_angles, pressures, empty_last_parts, one_part, two_subfields, limits_later,
-    cut_short, spare_set, chain_over, octets_left, behind_len, orders,
+KINDS = (
+    no_items, full, items_alone, subfields_alone, refused, every_indicator, numbers_at_their_ends, decimals, angles, both_angles, pressures,
+    empty_last_parts, one_part, two_subfields, limits_later, cut_short, spare_set, chain_over, octets_left, behind_len, orders,
 )
 
 
 # ---- requests
-
-def fit(given):
-    return len(sheet(given)), given
-
-
-def in_rooms(given):
-    """Exact, one less, none, and the longest."""
-    yield from ((room, given) for room in (len(sheet(given)), len(sheet(given)) - 1, 0, ROOM))
-
 
 def unknown():
     """Refusal 1, before anything else."""
@@ -190,98 +172,67 @@ def long_inputs(cat):
 
 
 def short_inputs():
-    """No octet, every category octet alone, and some inputs of two octets."""
-    yield b""
+    """Every category octet alone, and some inputs of two octets."""
     yield from (bytes([cat]) for cat in range(256))
     yield from (bytes([cat, n]) for cat in (*PAPERS, 0, 49) for n in (0, 1, 2, 3, 255))
 
 
-def requests_of(cat, rng):
-    for kind in ROOMED:
-        yield from itertools.chain.from_iterable(in_rooms(bytes([cat]) + field) for field in kind(cat))
-    for kind in PLAIN:
-        yield from (fit(bytes([cat]) + field) for field in kind(cat))
-    yield from map(fit, long_inputs(cat))
+def inputs_of(cat, rng):
+    yield from (bytes([cat]) + field for kind in KINDS for field in kind(cat))
+    yield from long_inputs(cat)
     for _ in range(RANDOM):
         fields = good_field(cat, rng), damaged(good_field(cat, rng), rng), noise(cat, rng)
-        yield from (fit(bytes([cat]) + field) for field in fields)
+        yield from (bytes([cat]) + field for field in fields)
+
+
+def inputs():
+    rng = random.Random(48007021)
+    yield WORKED
+    yield from short_inputs()
+    for cat in PAPERS:
+        yield from inputs_of(cat, rng)
+    yield from unknown()
 
 
 def requests():
-    rng = random.Random(48007021)
-    yield from in_rooms(WORKED)
-    yield from in_rooms(b"")
-    yield from map(fit, short_inputs())
-    for cat in PAPERS:
-        yield from requests_of(cat, rng)
-    yield from map(fit, unknown())
-
-
-def packed(request):
-    room, given = request
-    return room.to_bytes(2, "big") + len(given).to_bytes(2, "big") + given
-
-
-# ---- the answers that are wanted
-
-def line_of(request):
-    """The line with the answer, and the sheet behind it, without the line feed that ends it."""
-    room, given = request
-    text = sheet(given)
-    return f"ok {len(text)}\n{text[:-1]}" if len(text) <= room else "refused 11 at 0"
-
-
-def answers(told):
-    """What was told, cut before each line that has an answer: no line of a sheet begins so."""
-    return [answer.removesuffix("\n") for answer in re.split(r"(?m)^(?=ok |refused |cut off)", told)[1:]]
+    yield from ((b"sheet", given[0], given[1:]) for given in inputs())
 
 
 # ---- what the sheets reach
 
-def key_values(text):
-    return [tuple(line.split("=")) for line in text.splitlines()]
-
-
-def covered(made):
-    """Each number stands on a sheet with its lowest and its highest; each refusal is there at several places; rooms that are exact and one less."""
-    seen, places, counts = defaultdict(set), defaultdict(set), defaultdict(int)
-    for room, given in made:
-        text = sheet(given)
-        counts["refused by 11" if room < len(text) else "written"] += 1
-        counts["exact"] += room == len(text)
-        counts["one less"] += room == len(text) - 1
-        cat, pairs = given[0] if given else None, dict(key_values(text))
+def on_sheets(made):
+    """What stands on them: {(category, key): values}, and the places of each refusal, {(category, number): places}."""
+    seen, places = defaultdict(set), defaultdict(set)
+    for given in made:
+        pairs = dict(line.split("=") for line in sheet(given).splitlines())
         for key, value in pairs.items():
-            seen[cat, key].add(value)
-        if "refused" in pairs and cat is not None:
-            places[cat if cat in PAPERS else None, int(pairs["refused"])].add(int(pairs["at"]))
-    for cat, papers in PAPERS.items():
-        for item in papers:
-            numbers = [n for _, defined in item[1] for n in defined] + [n for _, _, defined in item[2] for n in defined]
-            for key, number in zip(keys(item), numbers):
-                assert key is None or {str(z) for z in limits(number)} <= seen[cat, key], (cat, key)
-            if len(item[1]) > 1:
-                assert {str(n) for n in range(1, len(item[1]) + 1)} == seen[cat, item[0] + ".chain"]
-        assert max(len(sheet(given)) for _, given in made if given[:1] == bytes([cat])) == LONGEST[cat]
+            seen[given[0], key].add(value)
+        if "refused" in pairs:
+            places[given[0] if given[0] in PAPERS else None, int(pairs["refused"])].add(int(pairs["at"]))
+    return seen, places
+
+
+def numbers_covered(cat, seen):
+    """Each number stands on a sheet with its lowest and its highest, each chain with each number of parts."""
+    for item in PAPERS[cat]:
+        numbers = [n for _, defined in item[1] for n in defined] + [n for _, _, defined in item[2] for n in defined]
+        for key, number in zip(keys(item), numbers):
+            assert key is None or {str(z) for z in limits(number)} <= seen[cat, key], (cat, key)
+        if len(item[1]) > 1:
+            assert {str(n) for n in range(1, len(item[1]) + 1)} == seen[cat, item[0] + ".chain"]
+
+
+def covered():
+    """Each number and each refusal, these at several places; the longest sheets; inputs of the lengths at which they are cut."""
+    made = list(dict.fromkeys(inputs()))
+    seen, places = on_sheets(made)
+    for cat in PAPERS:
+        numbers_covered(cat, seen)
+        assert max(len(sheet(given)) for given in made if given[0] == cat) == LONGEST[cat]
         never = {4, 8} if cat == 21 else set()  # it has no spare place and no number with limits
         assert {number for number in range(2, 10) if not places[cat, number]} == never
         assert all(len(places[cat, number]) >= 4 for number in (5, 6, 7, 9)) and (cat == 21 or len(places[cat, 8]) >= 2)
     assert places[None, 1] == {0}
-    assert {0, 1, 2, 255, 256, 257, 300} <= {len(given) for _, given in made}
+    assert {1, 2, 255, 256, 257, 300} <= {len(given) for given in made}
     assert {"351563", "-351563", "21", "90000000"} <= seen[48, "MD5.POS.LAT.udeg"] and "-180000000" in seen[48, "M5N.POS.LON.udeg"]
     assert {"8000", "8001", "9999", "10000", "12095"} <= seen[21, "BPS.tenths"]
-    return counts, places
-
-
-def main():
-    made = list(dict.fromkeys(requests()))
-    counts, places = covered(made)
-    octets = write_requests(CRATE, made, packed, line_of)
-    for cat in PAPERS:
-        reached = " ".join(f"{number}:{len(places[cat, number])}" for number in range(2, 10))
-        print(f"category {cat}: places of each refusal: {reached}")
-    print(f"{len(made)} requests, {', '.join(f'{count} {what}' for what, count in counts.items())}, {octets}")
-
-
-if __name__ == "__main__":
-    main()

@@ -1,0 +1,81 @@
+#!/usr/bin/env python3
+"""Holds docs/PROTOCOL.md and README.md to what is so: their sessions and tables against tests/refdesk.py, tests/papers.py and include/refdesk.h, and
+their commands against the programs.
+
+A block of sh or python with a block of text behind it is run from the repository's folder, and has to print that text. Of the blocks that send lines
+to refdesk, and of the rows of a table 'line | answer', the answers have to be those of tests/refdesk.py, too.
+"""
+import re
+import subprocess
+import sys
+from pathlib import Path
+
+from papers import PAPERS
+from refdesk import FORMS, answer, answers
+from started import started
+
+ROOT = Path(__file__).resolve().parent.parent
+PAGE = (ROOT / "docs" / "PROTOCOL.md").read_text()
+README = (ROOT / "README.md").read_text()
+HEADER = (ROOT / "include" / "refdesk.h").read_text()
+SHELLS = {"sh": ["sh", "-euc"], "python": [sys.executable, "-c"]}
+WORDS = {"PARTS": 8, "NUMBERS": 77}  # names that stand for several words
+
+
+def examples(page):
+    """(language, block, text behind it) of each block that has one."""
+    return re.findall(r"^```(sh|python)\n(.*?)^```\n\n```\n(.*?)^```\n", page, re.M | re.S)
+
+
+def table(page, head):
+    """The rows below each such head, as lists of cells without their marks of code."""
+    for found in re.findall(rf"^\| {re.escape(head)} \|\n\|[-|]+\|\n((?:\|.*\|\n)+)", page, re.M):
+        for row in found.splitlines():
+            yield [cell.strip().strip("`") for cell in row.strip("|").split(" | ")]
+
+
+def same(what, got, wanted):
+    if got != wanted:
+        sys.exit(f"{what}:\n{got}\nand not\n{wanted}")
+    return 1
+
+
+def sessions():
+    """The lines that blocks send to refdesk, and the table of lines, against tests/refdesk.py; the table's lines are asked of the program, too."""
+    count = 0
+    for _, block, text in examples(PAGE) + examples(README):
+        for asked in re.findall(r"^bin/run refdesk <<'END'\n(.*?)^END\n", block, re.M | re.S):
+            count += same("session", answers(asked.encode()), text)
+    rows = list(table(PAGE, "line | answer"))
+    for line, wanted in rows:
+        count += same(line, answer(line.encode()), wanted)
+    with started("refdesk", stdin=subprocess.PIPE, stdout=subprocess.PIPE) as desk:
+        told, _ = desk.communicate("".join(line + "\n" for line, _ in rows).encode())
+    return count + same("the table of lines", told.decode(), "".join(wanted + "\n" for _, wanted in rows))
+
+
+def commands():
+    """Each block is run, and prints what stands behind it."""
+    count = 0
+    for language, block, text in examples(PAGE) + examples(README):
+        ended = subprocess.run(SHELLS[language] + [block], cwd=ROOT, stdin=subprocess.DEVNULL, stdout=subprocess.PIPE, timeout=600, check=True)
+        count += same(block, ended.stdout.decode(), text)
+    return count
+
+
+def tables():
+    """Requests, items and refusals of the page, against the forms, the papers and the header."""
+    told = {row[0].split()[0]: sum(WORDS.get(word, 1) for word in row[0].split()[1:]) for row in table(PAGE, "request | answer")}
+    count = same("requests", told, {name.decode(): len(kinds) for name, (kinds, _) in FORMS.items()})
+    items = [row[:3] for row in table(PAGE, "item | name | list | what it is")]
+    count += same("items", items, [[str(i + 1), item[0], f"{0x80 >> i:02X}"] for paper in PAPERS.values() for i, item in enumerate(paper)])
+    refusals = [row[:2] for row in table(PAGE, "no. | given when | what to do")]
+    return count + same("refusals", refusals, [list(found) for found in re.findall(r"REF_\w+ = ([1-9]\d*),?\s+/\* (.*?) \*/", HEADER)])
+
+
+def main():
+    print(f"protocol: {tables() + sessions() + commands()} passed, 0 failed")
+
+
+if __name__ == "__main__":
+    main()
