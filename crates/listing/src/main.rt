@@ -6,7 +6,7 @@ ghost use mathlib.Core.Path.{_≡_};
 ghost use Prim.Native.Nat.{_≤_};
 ghost use lib.ListN.{length, take};
 ghost use Rattle.scope.specs.Sheet.{sheetOf};
-ghost use Rattle.text.specs.Longest.{longestSheet};
+ghost use Rattle.longest.specs.Longest.{longestSheet};
 use layout::Answer;
 
 // The octets of the input that count: a category, and a field as long as LEN can say.

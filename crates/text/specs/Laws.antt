@@ -2,5 +2,3 @@
 pub mod Typing
 pub mod Decimals
 pub mod Hex
-pub mod Ranges
-pub mod Longest

@@ -38,7 +38,7 @@ use Rattle.scope.specs.Laws.Reading.{read-found}
 use Rattle.scope.specs.Laws.Refusals.{place-within}
 use Rattle.scope.specs.Laws.Views.{view-inside}
 use Rattle.scope.specs.Laws.Edits.{edit-found, edited-octets, edit-afresh}
-use Rattle.text.specs.Laws.Longest.{sheet-longest}
+use Rattle.longest.specs.Laws.Longest.{sheet-longest}
 use Rattle.exports.specs.Packed.{Fit}
 use Rattle.exports.specs.Arrays.{PLACES, areOctets, ofArray, fillAnswer, writeArray}
 

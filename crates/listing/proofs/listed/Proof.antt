@@ -18,8 +18,8 @@ use Rattle.scope.specs.Sheet.{sheetOf}
 use Rattle.scope.specs.Outputs.{withRoom, answerOf, after, Leaves}
 use Rattle.layout.specs.Laws.Answer.{Accepted≢Refused}
 use Rattle.codec.specs.Laws.Codec.{octets-all}
-use Rattle.text.specs.Longest.{longestSheet}
-use Rattle.text.specs.Laws.Longest.{sheet-longest}
+use Rattle.longest.specs.Longest.{longestSheet}
+use Rattle.longest.specs.Laws.Longest.{sheet-longest}
 use Rattle.listing.proofs.listed.Statement.{statement}
 use Rattle.listing.proofs.listed.Tie as tie
 

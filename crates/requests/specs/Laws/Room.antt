@@ -30,10 +30,10 @@ use Rattle.scope.specs.Sheet.{sheetOf}
 use Rattle.scope.specs.Views.{isItem, present, standing, viewIn, viewOf, partOf, chooseIn, chooseOf, sideOf, chosenOf}
 use Rattle.scope.specs.Desk.{listed as onList, afresh, editIn, editOf}
 use Rattle.scope.specs.Laws.Views.{view-inside}
-use Rattle.text.specs.Longest.{longestSheet}
+use Rattle.longest.specs.Longest.{longestSheet}
 use Rattle.text.specs.Typing.{Types}
 use Rattle.text.specs.Laws.Typing.{typed-front}
-use Rattle.text.specs.Laws.Longest.{sheet-longest}
+use Rattle.longest.specs.Laws.Longest.{sheet-longest}
 use Rattle.words.specs.Numbers.{valueIn}
 use Rattle.words.specs.Laws.Numbers.{value-most}
 use Rattle.words.specs.Octets.{isOctets, octetOf, octetsOf, octetsIn, listIn}

@@ -35,7 +35,7 @@ use Rattle.shapes.specs.Spots.{spotAt, spots, spotsFrom, spotOf, itemsFrom, hel
 use Rattle.shapes.specs.Laws.Spots.{spots-right}
 use Rattle.text.specs.Typing.{Types}
 use Rattle.text.specs.Laws.Typing.{types-as, types-behind, typed-front}
-use Rattle.text.specs.Laws.Longest.{sheet-longest}
+use Rattle.longest.specs.Laws.Longest.{sheet-longest}
 use Rattle.sheet.specs.Items.{named, namedAt}
 use Rattle.sheet.specs.Rows.{namesFrom, commaOf}
 use Rattle.sheet.specs.Whole.{recordText}

@@ -34,9 +34,9 @@ use Rattle.layout.specs.Laws.Papers.{by-paper, good-paper}
 use Rattle.scope.specs.Angle.{udegOf}
 use Rattle.scope.specs.Reading.{fieldOf}
 use Rattle.scope.specs.Sheet.{decimal, signedDecimal, keyLine, numbersText, linesThere, linesText, chainText, itemText, rowText, itemsText, refusalText, sheetOf}
 use Rattle.text.specs.Laws.Decimals.{decimal-most, decimal-longer}
-use Rattle.text.specs.Laws.Ranges.{mostLine, mostNumbers, append-most, line-most, numbers-most}
-use Rattle.text.specs.Longest.{longestSheet}
+use Rattle.longest.specs.Laws.Ranges.{mostLine, mostNumbers, append-most, line-most, numbers-most}
+use Rattle.longest.specs.Longest.{longestSheet}
 
 -- ---- what the lines of an item hold, one behind the other
 
