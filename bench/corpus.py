@@ -1,30 +1,60 @@
 """Makes the corpora of the benchmark: `python3 bench/corpus.py SEED FOLDER`, one file NAME.bin for each corpus.
 
-A file is records of: category, length and octets of a field, then an edit of it: list, item, length and octets of the new item (length 0: a removal).
-Reading and the sheet use the field alone, so that one file serves all three operations.
+A file is requests, and a request serves every operation: a field, which is read and listed; an item, which is viewed
+and edited; a record, which is written.
 """
+import collections
 import pathlib
 import random
+import struct
 import sys
 
 HERE = pathlib.Path(__file__).resolve().parent
 sys.path.insert(0, str(HERE.parent / "tests"))
 import fields  # noqa: E402
+import records  # noqa: E402
 import reference  # noqa: E402
 from papers import PAPERS  # noqa: E402
 
 MANY, FEW = 2048, 256
 LENGTHS = (2, 8, 16, 32, 52)
+ROOM, PLACES = 1024, 87  # of an output, and of a record's array
+REMOVAL = 0xFFFF
+
+# new is None for a removal; the record is the numbers of its array; room and places are the lengths that are lent
+Request = collections.namedtuple("Request", "cat field listed item new record room places", defaults=(ROOM, PLACES))
 
 
-def packed(cat, field, listed, item, new):
-    return bytes([cat, len(field)]) + field + bytes([listed, item, len(new)]) + new
+def packed(r):
+    """A request as driver.c takes it apart."""
+    m = REMOVAL if r.new is None else len(r.new)
+    head = struct.pack(f"<{PLACES}i4H2B2x", *r.record, r.places, r.room, len(r.field), m, r.listed, r.item)
+    octets = head + bytes([r.cat]) + r.field + (r.new or b"")
+    return octets + bytes(-len(octets) % 4)
+
+
+def array_of(record):
+    cat, items, parts, numbers = record
+    return [cat, items, *parts, *numbers]
+
+
+def own_record(cat, field, rng):
+    """What the field reads to; zeros where it is refused."""
+    return array_of(records.record_of((cat, field, ())))
+
+
+def bad_record(cat, field, rng):
+    """The field's record with a change, until it is refused."""
+    while True:
+        record = records.record_of((cat, field, (records.any_change(cat, rng),)))
+        if reference.write(record, ROOM)[0] != "ok":
+            return array_of(record)
 
 
 def good_edit(cat, rng):
     """One time in three a removal, else octets that are right."""
     item = rng.randrange(1, len(PAPERS[cat]) + 1)
-    return 255, item, b"" if rng.randrange(3) == 0 else fields.good_item(PAPERS[cat][item - 1], rng)
+    return 255, item, None if rng.randrange(3) == 0 else fields.good_item(PAPERS[cat][item - 1], rng)
 
 
 def bad_edit(cat, rng):
@@ -62,29 +92,29 @@ def field_of_length(length, rng):
 
 
 def corpora(seed):
-    def rng(name):
-        return random.Random(f"{seed} {name}")
+    """Each corpus as its name and its requests."""
+    def fill(name, count, cats, field=fields.good_field, edit=good_edit, record=own_record):
+        rng = random.Random(f"{seed} {name}")
+        drawn = [rng.choice(cats) for _ in range(count)]
+        made = [(cat, field(cat, rng), *edit(cat, rng)) for cat in drawn]
+        return name, [Request(*some, record(some[0], some[1], rng)) for some in made]
 
-    def fill(name, count, cats, field, edit):
-        r = rng(name)
-        drawn = [r.choice(cats) for _ in range(count)]
-        return name, [packed(cat, field(cat, r), *edit(cat, r)) for cat in drawn]
-
-    yield fill("mixed", MANY, (48, 21, 7), fields.good_field, good_edit)
+    yield fill("mixed", MANY, (48, 21, 7))
     for cat in (48, 21, 7):
-        yield fill(f"cat{cat:03}", FEW, (cat,), fields.good_field, good_edit)
-    yield fill("refused", FEW, (48, 21, 7), refused_field, good_edit)
-    yield fill("bad-edits", FEW, (48, 21, 7), fields.good_field, bad_edit)
+        yield fill(f"cat{cat:03}", FEW, (cat,))
+    yield fill("refused", FEW, (48, 21, 7), field=refused_field)
+    yield fill("bad-edits", FEW, (48, 21, 7), edit=bad_edit)
+    yield fill("bad-records", FEW, (48, 21, 7), record=bad_record)
     for length in LENGTHS:
-        yield fill(f"len{length:02}", FEW, (48,), lambda _, r, n=length: field_of_length(n, r), good_edit)
+        yield fill(f"len{length:02}", FEW, (48,), field=lambda _, rng, n=length: field_of_length(n, rng))
 
 
 def main(seed, folder):
     folder = pathlib.Path(folder)
     folder.mkdir(parents=True, exist_ok=True)
-    for name, records in corpora(seed):
-        (folder / f"{name}.bin").write_bytes(b"".join(records))
-        print(f"{name}: {len(records)} fields")
+    for name, requests in corpora(seed):
+        (folder / f"{name}.bin").write_bytes(b"".join(map(packed, requests)))
+        print(f"{name}: {len(requests)} requests")
 
 
 if __name__ == "__main__":

@@ -1,6 +1,11 @@
-/* Runs one operation over a corpus of bench/corpus.py: `driver OPERATION CORPUS REPEAT COUNT`, OPERATION read, edit, sheet, or none for the loop alone; COUNT 0 means all records.
-   With -DOURS it calls ref_* of include/refdesk.h, else plain_*. A first pass, not timed, makes a checksum of every answer and of every octet of the outputs;
-   the timed passes add up the answers. Prints: checksum, nanoseconds of processor time of the timed passes, records in a pass. */
+/* Runs one operation over the requests of a corpus of bench/corpus.py: read, write, view, edit, sheet, or none for the
+   loop alone. With -DOURS it calls ref_* of include/refdesk.h, else plain_*.
+
+       driver OPERATION CORPUS                 a line for each request: a checksum of the answer and of all outputs
+       driver OPERATION CORPUS REPEAT COUNT    one line for the first COUNT requests, 0 for all: the sum of the answers,
+                                               nanoseconds of processor time of REPEAT passes, requests in a pass
+
+   A first pass is not timed: by it the emulator has translated the code, and the caches are filled. */
 #include <stdio.h>
 #include <stdlib.h>
 #include <string.h>
@@ -14,16 +19,24 @@
 #define SIDE(operation) plain_##operation
 #endif
 
-enum { ROOM = 1024, LARGEST = 1 << 22 };
+enum { ROOM = 1024, PLACES = 100, LARGEST = 1 << 24, REMOVAL = 0xFFFF };
 
-struct request {
-    const uint8_t *input; /* the category octet and the field */
-    const uint8_t *octets;
-    size_t n, m; /* of the field, of the new octets */
-    uint8_t cat, list, item;
+/* A request as corpus.py packs it. Behind it stand the category, the field, the new octets; up to a multiple of 4. */
+struct head {
+    int32_t record[PLAIN_RECORD];
+    uint16_t places, room, n, m;
+    uint8_t list, item;
 };
 
-static int32_t record[PLAIN_RECORD];
+struct request {
+    const int32_t *record;     /* what is written */
+    const uint8_t *input;      /* the category octet and the field */
+    const uint8_t *octets;     /* the new item, NULL for a removal */
+    size_t places, room, n, m; /* of a record's array, of an output, of the field, of the new octets */
+    uint8_t list, item;
+};
+
+static int32_t kept[PLACES];
 static uint8_t out[ROOM];
 
 typedef uint64_t operation(const struct request *r);
@@ -33,39 +46,36 @@ static uint64_t do_none(const struct request *r)
     return r->n;
 }
 
-#ifndef WITHOUT_READ
 static uint64_t do_read(const struct request *r)
 {
-    return SIDE(read)(r->cat, r->input + 1, r->n, record, PLAIN_RECORD);
+    return SIDE(read)(r->input[0], r->input + 1, r->n, kept, r->places);
 }
-#endif
 
-#ifndef WITHOUT_EDIT
+static uint64_t do_write(const struct request *r)
+{
+    return SIDE(write)(r->record, r->places, out, r->room);
+}
+
+static uint64_t do_view(const struct request *r)
+{
+    return SIDE(view)(r->input[0], r->input + 1, r->n, r->item);
+}
+
 static uint64_t do_edit(const struct request *r)
 {
-    if (r->m) return SIDE(replace)(r->cat, r->input + 1, r->n, r->list, r->item, r->octets, r->m, out, ROOM);
-    return SIDE(remove)(r->cat, r->input + 1, r->n, r->list, r->item, out, ROOM);
+    const uint8_t cat = r->input[0], *field = r->input + 1;
+    if (r->octets) return SIDE(replace)(cat, field, r->n, r->list, r->item, r->octets, r->m, out, r->room);
+    return SIDE(remove)(cat, field, r->n, r->list, r->item, out, r->room);
 }
-#endif
 
-#ifndef WITHOUT_SHEET
 static uint64_t do_sheet(const struct request *r)
 {
-    return SIDE(sheet)(r->input, r->n + 1, out, ROOM);
+    return SIDE(sheet)(r->input, r->n + 1, out, r->room);
 }
-#endif
 
 static const struct { const char *name; operation *call; } OPERATIONS[] = {
-    { "none", do_none },
-#ifndef WITHOUT_READ
-    { "read", do_read },
-#endif
-#ifndef WITHOUT_EDIT
-    { "edit", do_edit },
-#endif
-#ifndef WITHOUT_SHEET
-    { "sheet", do_sheet },
-#endif
+    { "none", do_none }, { "read", do_read }, { "write", do_write },
+    { "view", do_view }, { "edit", do_edit }, { "sheet", do_sheet }
 };
 
 static void fail(const char *why)
@@ -79,11 +89,20 @@ static operation *operation_of(const char *name)
     for (size_t k = 0; k < sizeof OPERATIONS / sizeof *OPERATIONS; k++) {
         if (!strcmp(OPERATIONS[k].name, name)) return OPERATIONS[k].call;
     }
-    fail("no such operation on this side");
+    fail("no such operation");
     return NULL;
 }
 
-/* Takes the records of a file apart; the length octet of each is overwritten by its category, so that the category stands before the field. */
+/* The request that a head begins, and its size. */
+static size_t unpack(const struct head *h, struct request *r)
+{
+    size_t m = h->m == REMOVAL ? 0 : h->m;
+    const uint8_t *input = (const uint8_t *)(h + 1), *octets = input + 1 + h->n;
+    *r = (struct request){ .record = h->record, .input = input, .octets = h->m == REMOVAL ? NULL : octets,
+                           .places = h->places, .room = h->room, .n = h->n, .m = m, .list = h->list, .item = h->item };
+    return (sizeof *h + 1 + h->n + m + 3) / 4 * 4;
+}
+
 static size_t load(const char *path, struct request **requests)
 {
     uint8_t *file = malloc(LARGEST);
@@ -92,20 +111,9 @@ static size_t load(const char *path, struct request **requests)
     size_t size = fread(file, 1, LARGEST, f), count = 0;
     fclose(f);
     if (size == LARGEST) fail("corpus too large");
-    *requests = malloc((size / 5 + 1) * sizeof **requests);
-    for (size_t at = 0; at < size; count++) {
-        struct request *r = *requests + count;
-        r->cat = file[at];
-        r->n = file[at + 1];
-        file[at + 1] = r->cat;
-        r->input = file + at + 1;
-        const uint8_t *edit = r->input + 1 + r->n;
-        r->list = edit[0];
-        r->item = edit[1];
-        r->m = edit[2];
-        r->octets = edit + 3;
-        at = (size_t)(edit + 3 + r->m - file);
-    }
+    *requests = malloc((size / sizeof(struct head) + 1) * sizeof **requests);
+    if (!*requests) fail("no memory");
+    for (size_t at = 0; at < size; count++) at += unpack((const struct head *)(file + at), *requests + count);
     return count;
 }
 
@@ -115,43 +123,51 @@ static uint64_t mixed(uint64_t sum, uint64_t word)
     return sum ^ sum >> 29;
 }
 
-/* The outputs hold a mark before each call, so that what is not written shows too. */
-static uint64_t checksum(operation *call, const struct request *requests, size_t count)
+/* The outputs hold a mark before the call, so that what is not written shows too. */
+static uint64_t checksum(operation *call, const struct request *r)
 {
-    uint64_t sum = 0;
-    for (size_t k = 0; k < count; k++) {
-        uint64_t word;
-        memset(record, 0x5A, sizeof record);
-        memset(out, 0xA5, sizeof out);
-        sum = mixed(sum, call(requests + k));
-        for (size_t i = 0; i < PLAIN_RECORD; i++) sum = mixed(sum, (uint32_t)record[i]);
-        for (size_t i = 0; i < sizeof out; i += 8) {
-            memcpy(&word, out + i, 8);
-            sum = mixed(sum, word);
-        }
+    uint64_t word;
+    memset(kept, 0x5A, sizeof kept);
+    memset(out, 0xA5, sizeof out);
+    uint64_t sum = mixed(0, call(r));
+    for (size_t i = 0; i < PLACES; i++) sum = mixed(sum, (uint32_t)kept[i]);
+    for (size_t i = 0; i < sizeof out; i += sizeof word) {
+        memcpy(&word, out + i, sizeof word);
+        sum = mixed(sum, word);
     }
     return sum;
+}
+
+static uint64_t pass(operation *call, const struct request *requests, size_t count)
+{
+    uint64_t told = 0;
+    for (size_t i = 0; i < count; i++) told += call(requests + i);
+    return told;
+}
+
+static void timed(operation *call, const struct request *requests, size_t count, size_t repeat)
+{
+    struct timespec from, to;
+    uint64_t first = pass(call, requests, count), told = 0;
+    clock_gettime(CLOCK_PROCESS_CPUTIME_ID, &from);
+    for (size_t k = 0; k < repeat; k++) told += pass(call, requests, count);
+    clock_gettime(CLOCK_PROCESS_CPUTIME_ID, &to);
+    if (told != first * repeat) fail("a pass told something else");
+    long long ns = (to.tv_sec - from.tv_sec) * 1000000000LL + (to.tv_nsec - from.tv_nsec);
+    printf("%016llx %lld %zu\n", (unsigned long long)first, ns, count);
 }
 
 int main(int argc, char **argv)
 {
     struct request *requests;
-    struct timespec from, to;
-    if (argc != 5) fail("usage: driver OPERATION CORPUS REPEAT COUNT");
+    if (argc != 3 && argc != 5) fail("usage: driver OPERATION CORPUS [REPEAT COUNT]");
     operation *call = operation_of(argv[1]);
-    size_t count = load(argv[2], &requests), repeat = strtoul(argv[3], NULL, 10), some = strtoul(argv[4], NULL, 10);
-    if (some && some < count) count = some;
-    uint64_t sum = checksum(call, requests, count), told = 0;
-    clock_gettime(CLOCK_PROCESS_CPUTIME_ID, &from);
-    for (size_t k = 0; k < repeat; k++) {
-        for (size_t i = 0; i < count; i++) told += call(requests + i);
+    size_t count = load(argv[2], &requests);
+    if (argc == 5) {
+        size_t some = strtoul(argv[4], NULL, 10);
+        timed(call, requests, some && some < count ? some : count, strtoul(argv[3], NULL, 10));
+        return 0;
     }
-    clock_gettime(CLOCK_PROCESS_CPUTIME_ID, &to);
-    /* the passes must have told the same each time */
-    uint64_t once = 0;
-    for (size_t i = 0; i < count; i++) once += call(requests + i);
-    if (told != once * repeat) fail("a pass told something else");
-    long long ns = (to.tv_sec - from.tv_sec) * 1000000000LL + (to.tv_nsec - from.tv_nsec);
-    printf("%016llx %lld %zu\n", (unsigned long long)sum, ns, count);
+    for (size_t i = 0; i < count; i++) printf("%016llx\n", (unsigned long long)checksum(call, requests + i));
     return 0;
 }

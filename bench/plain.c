@@ -1,5 +1,6 @@
-/* Document 01 in plain C, by hand and without a proof. A field is walked once, with every check in 01's order; the numbers are then taken from octets that are known to be right.
-   Nothing here is taken from crates/; tests/reference.py is what bench/check.py holds it against. */
+/* Document 01 in plain C, by hand and without a proof. A field is walked once, with every check in 01's order; the
+   numbers are then taken from octets that are known to be right. Nothing here is taken from crates/; tests/reference.py
+   is what bench/check.py holds it against. */
 #include "plain.h"
 
 #include <stdbool.h>
@@ -7,7 +8,7 @@
 
 enum refusal {
     BAD_CATEGORY = 1, SHORT_SLICE, SMALL_LEN, SPARE_ITEM, CUT_OFF, SPARE_SET, TOO_MANY_PARTS, OUT_OF_RANGE, OCTETS_LEFT,
-    NO_ROOM = 11, NO_SUCH_ITEM, NOT_LISTED, BAD_OCTETS
+    BAD_RECORD, NO_ROOM, NO_SUCH_ITEM, NOT_LISTED, BAD_OCTETS, ABSENT
 };
 
 static uint64_t refused(unsigned number, size_t place)
@@ -30,7 +31,8 @@ static inline int32_t signed_of(uint32_t v, unsigned bits)
 
 typedef const uint8_t *place;
 
-/* A field's end, and the first refusal in it. A function of the walk gives the place behind what it passed, or NULL for a refusal. */
+/* A field's end, and the first refusal in it. A function of the walk gives the place behind what it passed, or NULL for
+   a refusal. */
 struct walk {
     place end, at;
     unsigned refusal;
@@ -223,7 +225,8 @@ static unsigned items_of(uint8_t cat)
 
 static inline place pass_items(struct walk *w, uint8_t cat, place p, unsigned items, place start[9])
 {
-    return cat == 48 ? pass_048(w, p, items, start) : cat == 21 ? pass_021(w, p, items, start) : pass_007(w, p, items, start);
+    if (cat == 48) return pass_048(w, p, items, start);
+    return cat == 21 ? pass_021(w, p, items, start) : pass_007(w, p, items, start);
 }
 
 /* 0, or the refusal of the field. */
@@ -463,10 +466,319 @@ uint64_t plain_read(uint8_t cat, const uint8_t *field, size_t n, int32_t *record
     return field[0];
 }
 
+/* ---- The writer: octets from numbers */
+
+enum { LONGEST = 52 };
+
+/* Where the next octet goes, and what was found that no field holds: bits above a number's own, or a number where
+   nothing is. It is 0 as long as all is right, and tried once at the end; no record makes a longer field than LONGEST.
+   An item takes and gives it by value, so that it stays in registers. */
+struct laying {
+    uint8_t *next;
+    uint32_t wrong;
+};
+
+/* A number of so many bits, from 0 up. */
+static inline uint32_t bits(struct laying *l, int32_t z, unsigned width)
+{
+    l->wrong |= (uint32_t)z >> width;
+    return (uint32_t)z;
+}
+
+/* A number of so many bits, two's complement, with the limits that it has. */
+static inline uint32_t limited(struct laying *l, int32_t z, unsigned width, int32_t low, int32_t high)
+{
+    l->wrong |= z < low || z > high;
+    return (uint32_t)z & ((UINT32_C(1) << width) - 1);
+}
+
+static inline uint32_t signed_bits(struct laying *l, int32_t z, unsigned width)
+{
+    int32_t half = INT32_C(1) << (width - 1);
+    return limited(l, z, width, -half, half - 1);
+}
+
+/* Single bits from the high one down. */
+static inline uint32_t flags(struct laying *l, const int32_t *n, unsigned high, unsigned count)
+{
+    uint32_t all = 0, octet = 0;
+    for (unsigned k = 0; k < count; k++) {
+        all |= (uint32_t)n[k];
+        octet |= (uint32_t)n[k] << (high - k);
+    }
+    l->wrong |= all >> 1;
+    return octet;
+}
+
+/* Numbers of what is not there. */
+static inline void zeros(struct laying *l, const int32_t *n, unsigned count)
+{
+    for (unsigned k = 0; k < count; k++) l->wrong |= (uint32_t)n[k];
+}
+
+/* So many octets, the high one first. */
+static inline void lay1(struct laying *l, uint32_t v)
+{
+    *l->next++ = (uint8_t)v;
+}
+
+static inline void lay2(struct laying *l, uint32_t v)
+{
+    lay1(l, v >> 8);
+    lay1(l, v);
+}
+
+static inline void lay3(struct laying *l, uint32_t v)
+{
+    lay1(l, v >> 16);
+    lay2(l, v);
+}
+
+static inline void lay4(struct laying *l, uint32_t v)
+{
+    lay2(l, v >> 16);
+    lay2(l, v);
+}
+
+static inline void lay_sum(struct laying *l, const int32_t *n, bool there)
+{
+    if (there) lay1(l, flags(l, n, 7, 7));
+    else zeros(l, n, 7);
+}
+
+static inline void lay_xp(struct laying *l, const int32_t *n, bool there)
+{
+    if (there) lay1(l, flags(l, n, 5, 6));
+    else zeros(l, n, 6);
+}
+
+static inline void lay_fom(struct laying *l, const int32_t *n, bool there)
+{
+    if (there) lay1(l, bits(l, n[0], 5));
+    else zeros(l, n, 1);
+}
+
+/* From POS on, MD5 and M5N have their numbers at the same slots. */
+static struct laying lay_mode5(struct laying l, const int32_t *n, uint32_t there)
+{
+    if (there & 0x20) {
+        lay3(&l, limited(&l, n[18], 24, -4194304, 4194304));
+        lay3(&l, signed_bits(&l, n[19], 24));
+    } else zeros(&l, n + 18, 2);
+    if (there & 0x10) lay2(&l, bits(&l, n[20], 1) << 14 | limited(&l, n[21], 14, -40, 8191));
+    else zeros(&l, n + 20, 2);
+    if (there & 0x08) lay2(&l, flags(&l, n + 22, 15, 3) | bits(&l, n[25], 12));
+    else zeros(&l, n + 22, 4);
+    if (there & 0x04) lay1(&l, signed_bits(&l, n[26], 8));
+    else zeros(&l, n + 26, 1);
+    lay_xp(&l, n + 27, there & 0x02);
+    return l;
+}
+
+static struct laying lay_md5(struct laying l, const int32_t *n, int32_t parts)
+{
+    uint32_t there = flags(&l, n, 7, 7);
+    l.wrong |= parts != 1;
+    lay1(&l, there);
+    lay_sum(&l, n + 7, there & 0x80);
+    if (there & 0x40) {
+        lay4(&l, bits(&l, n[14], 14) << 16 | bits(&l, n[15], 1) << 13 | bits(&l, n[16], 5) << 8 | bits(&l, n[17], 6));
+    } else zeros(&l, n + 14, 4);
+    return lay_mode5(l, n, there);
+}
+
+static struct laying lay_m5n(struct laying l, const int32_t *n, int32_t parts)
+{
+    uint32_t there = flags(&l, n, 7, 7), second = bits(&l, n[7], 1);
+    bool more = parts == 2;
+    l.wrong |= more ? 0 : second | (parts != 1);
+    lay1(&l, there | more);
+    if (more) lay1(&l, second << 7);
+    lay_sum(&l, n + 8, there & 0x80);
+    if (there & 0x40) lay4(&l, bits(&l, n[15], 14) << 16 | bits(&l, n[16], 1) << 11 | bits(&l, n[17], 11));
+    else zeros(&l, n + 15, 3);
+    l = lay_mode5(l, n, there);
+    lay_fom(&l, n + 33, second);
+    return l;
+}
+
+static struct laying lay_m4e(struct laying l, const int32_t *n, int32_t parts)
+{
+    l.wrong |= parts != 1;
+    lay1(&l, bits(&l, n[0], 2) << 1);
+    return l;
+}
+
+static struct laying lay_rpc(struct laying l, const int32_t *n, int32_t parts)
+{
+    uint32_t there = flags(&l, n, 7, 4);
+    l.wrong |= parts != 1;
+    lay1(&l, there);
+    if (there & 0x80) lay1(&l, bits(&l, n[4], 8));
+    else zeros(&l, n + 4, 1);
+    for (unsigned k = 1; k < 4; k++) {
+        if (there & 0x80 >> k) lay2(&l, bits(&l, n[4 + k], 16));
+        else zeros(&l, n + 4 + k, 1);
+    }
+    return l;
+}
+
+static struct laying lay_sgv(struct laying l, const int32_t *n, int32_t parts)
+{
+    bool more = parts == 2;
+    l.wrong |= parts != 1 && !more;
+    lay2(&l, flags(&l, n, 15, 4) | bits(&l, n[4], 11) << 1 | more);
+    if (more) lay1(&l, bits(&l, n[5], 7) << 1);
+    else zeros(&l, n + 5, 1);
+    return l;
+}
+
+/* Parts 4 and 5 have one layout. */
+static inline void lay_sta_part(struct laying *l, const int32_t *n, bool there, bool more)
+{
+    if (!there) zeros(l, n, 4);
+    else lay1(l, bits(l, n[0], 1) << 7 | bits(l, n[1], 2) << 5 | bits(l, n[2], 1) << 4 | bits(l, n[3], 3) << 1 | more);
+}
+
+static struct laying lay_sta(struct laying l, const int32_t *n, int32_t parts)
+{
+    l.wrong |= parts < 1 || parts > 6;
+    lay1(&l, flags(&l, n, 7, 3) | bits(&l, n[3], 2) << 3 | flags(&l, n + 4, 2, 2) | (parts > 1));
+    if (parts > 1) {
+        uint32_t high = bits(&l, n[6], 1) << 7 | bits(&l, n[7], 3) << 4;
+        lay1(&l, high | bits(&l, n[8], 1) << 3 | bits(&l, n[9], 2) << 1 | (parts > 2));
+    } else zeros(&l, n + 6, 4);
+    if (parts > 2) {
+        lay1(&l, bits(&l, n[10], 1) << 7 | bits(&l, n[11], 2) << 5 | flags(&l, n + 12, 4, 4) | (parts > 3));
+    } else zeros(&l, n + 10, 6);
+    lay_sta_part(&l, n + 16, parts > 3, parts > 4);
+    lay_sta_part(&l, n + 20, parts > 4, parts > 5);
+    if (parts > 5) lay1(&l, bits(&l, n[24], 1) << 7 | bits(&l, n[25], 5) << 2);
+    else zeros(&l, n + 24, 2);
+    return l;
+}
+
+/* V, L and a code of 12 bits. */
+static inline void lay_code(struct laying *l, const int32_t *n, bool there)
+{
+    if (there) lay2(l, bits(l, n[0], 1) << 15 | bits(l, n[1], 1) << 13 | bits(l, n[2], 12));
+    else zeros(l, n, 3);
+}
+
+static struct laying lay_mes(struct laying l, const int32_t *n, int32_t parts)
+{
+    uint32_t there = flags(&l, n, 7, 6);
+    l.wrong |= parts != 1;
+    lay1(&l, there);
+    if (there & 0x80) lay1(&l, flags(&l, n + 6, 7, 8));
+    else zeros(&l, n + 6, 8);
+    if (there & 0x40) lay4(&l, bits(&l, n[14], 14) << 16 | bits(&l, n[15], 11));
+    else zeros(&l, n + 14, 2);
+    lay_code(&l, n + 16, there & 0x20);
+    lay_xp(&l, n + 19, there & 0x10);
+    lay_fom(&l, n + 25, there & 0x08);
+    lay_code(&l, n + 26, there & 0x04);
+    return l;
+}
+
+/* An item that is not there has no parts either. */
+static inline struct laying no_item(struct laying l, const int32_t *n, unsigned count, int32_t parts)
+{
+    l.wrong |= (uint32_t)parts;
+    zeros(&l, n, count);
+    return l;
+}
+
+/* M5N, M4E, RPC and ERR, from the slot of the first: category 48 and 7 end alike. */
+static inline struct laying lay_last_four(struct laying l, uint32_t items, const int32_t *parts, const int32_t *n)
+{
+    l.wrong |= items & ~UINT32_C(0xF8);
+    l = items & 0x40 ? lay_m5n(l, n, parts[1]) : no_item(l, n, 34, parts[1]);
+    l = items & 0x20 ? lay_m4e(l, n + 34, parts[2]) : no_item(l, n + 34, 1, parts[2]);
+    l = items & 0x10 ? lay_rpc(l, n + 35, parts[3]) : no_item(l, n + 35, 8, parts[3]);
+    if (items & 0x08) lay3(&l, bits(&l, n[43], 24));
+    else zeros(&l, n + 43, 1);
+    zeros(&l, parts + 4, 4);
+    return l;
+}
+
+static struct laying lay_048(struct laying l, uint32_t items, const int32_t *parts, const int32_t *n)
+{
+    l = items & 0x80 ? lay_md5(l, n, parts[0]) : no_item(l, n, 33, parts[0]);
+    return lay_last_four(l, items, parts, n + 33);
+}
+
+static struct laying lay_007(struct laying l, uint32_t items, const int32_t *parts, const int32_t *n)
+{
+    zeros(&l, parts, 1);
+    if (items & 0x80) lay4(&l, signed_bits(&l, n[0], 14) << 16 | signed_bits(&l, n[1], 14));
+    else zeros(&l, n, 2);
+    zeros(&l, n + 46, 31);
+    return lay_last_four(l, items, parts, n + 2);
+}
+
+static struct laying lay_021(struct laying l, uint32_t items, const int32_t *parts, const int32_t *n)
+{
+    l.wrong |= items & ~UINT32_C(0xFF);
+    zeros(&l, parts, 4);
+    if (items & 0x80) lay2(&l, bits(&l, n[0], 12));
+    else zeros(&l, n, 1);
+    if (items & 0x40) lay2(&l, flags(&l, n + 1, 11, 2) | bits(&l, n[3], 10));
+    else zeros(&l, n + 1, 3);
+    if (items & 0x20) lay1(&l, flags(&l, n + 4, 7, 6));
+    else zeros(&l, n + 4, 6);
+    if (items & 0x10) lay1(&l, bits(&l, n[10], 3) << 5 | bits(&l, n[11], 5));
+    else zeros(&l, n + 10, 2);
+    l = items & 0x08 ? lay_sgv(l, n + 12, parts[4]) : no_item(l, n + 12, 6, parts[4]);
+    l = items & 0x04 ? lay_sta(l, n + 18, parts[5]) : no_item(l, n + 18, 26, parts[5]);
+    if (items & 0x02) lay2(&l, bits(&l, n[44], 16));
+    else zeros(&l, n + 44, 1);
+    zeros(&l, parts + 6, 1);
+    l = items & 0x01 ? lay_mes(l, n + 45, parts[7]) : no_item(l, n + 45, 29, parts[7]);
+    zeros(&l, n + 74, 3);
+    return l;
+}
+
+uint64_t plain_write(const int32_t *record, size_t length, uint8_t *out, size_t room)
+{
+    uint8_t field[LONGEST];
+    struct laying l = { field + 2, 0 };
+    if (length != PLAIN_RECORD) return refused(BAD_RECORD, 0);
+    uint32_t items = (uint32_t)record[1];
+    const int32_t *parts = record + 2, *n = record + 10;
+    switch (record[0]) {
+    case 48: l = lay_048(l, items, parts, n); break;
+    case 21: l = lay_021(l, items, parts, n); break;
+    case 7: l = lay_007(l, items, parts, n); break;
+    default: return refused(BAD_CATEGORY, 0);
+    }
+    if (l.wrong) return refused(BAD_RECORD, 0);
+    size_t size = (size_t)(l.next - field);
+    if (size > room) return refused(NO_ROOM, 0);
+    field[0] = (uint8_t)size;
+    field[1] = (uint8_t)items;
+    memcpy(out, field, size);
+    return size;
+}
+
+/* ---- The view */
+
+uint64_t plain_view(uint8_t cat, const uint8_t *field, size_t n, uint8_t item)
+{
+    place start[9];
+    uint64_t answer = walk_field(cat, field, n, start);
+    if (answer) return answer;
+    if (item < 1 || item > items_of(cat)) return refused(NO_SUCH_ITEM, 0);
+    if (!(field[1] & 0x100 >> item)) return refused(ABSENT, 0);
+    place from = start[item - 1];
+    return (uint64_t)(from - field) << 16 | (uint64_t)(start[item] - from);
+}
+
 /* ---- The editor */
 
 /* The field with its octets from a place to another exchanged for m others, into the front of out. */
-static uint64_t splice(const uint8_t *field, unsigned items, place from, place to, const uint8_t *octets, size_t m, uint8_t *out, size_t room)
+static uint64_t splice(const uint8_t *field, unsigned items, place from, place to, const uint8_t *octets, size_t m,
+                       uint8_t *out, size_t room)
 {
     size_t front = (size_t)(from - field), rest = (size_t)(field + field[0] - to), n = front + m + rest;
     if (n > room) return refused(NO_ROOM, 0);
@@ -487,7 +799,8 @@ static uint64_t allowed(uint8_t cat, const uint8_t *field, size_t n, uint8_t lis
     return list & 0x100 >> item ? 0 : refused(NOT_LISTED, 0);
 }
 
-uint64_t plain_remove(uint8_t cat, const uint8_t *field, size_t n, uint8_t list, uint8_t item, uint8_t *out, size_t room)
+uint64_t plain_remove(uint8_t cat, const uint8_t *field, size_t n, uint8_t list, uint8_t item, uint8_t *out,
+                      size_t room)
 {
     place start[9];
     uint64_t answer = allowed(cat, field, n, list, item, start);
@@ -503,7 +816,8 @@ static bool is_item(uint8_t cat, unsigned bit, const uint8_t *octets, size_t m)
     return m > 0 && m <= 253 && pass_items(&w, cat, octets, bit, start) == w.end;
 }
 
-uint64_t plain_replace(uint8_t cat, const uint8_t *field, size_t n, uint8_t list, uint8_t item, const uint8_t *octets, size_t m, uint8_t *out, size_t room)
+uint64_t plain_replace(uint8_t cat, const uint8_t *field, size_t n, uint8_t list, uint8_t item, const uint8_t *octets,
+                       size_t m, uint8_t *out, size_t room)
 {
     place start[9];
     uint64_t answer = allowed(cat, field, n, list, item, start);
@@ -776,7 +1090,9 @@ static char *show_021(char *t, const int32_t *record)
 static char *show_names(char *t, uint8_t cat, unsigned items)
 {
     static const char NAMES[3][8][5] = {
-        { "MD5", "M5N", "M4E", "RPC", "ERR" }, { "BPS", "SelH", "NAV", "GAO", "SGV", "STA", "TNH", "MES" }, { "TA", "M5N", "M4E", "RPC", "ERR" }
+        { "MD5", "M5N", "M4E", "RPC", "ERR" },
+        { "BPS", "SelH", "NAV", "GAO", "SGV", "STA", "TNH", "MES" },
+        { "TA", "M5N", "M4E", "RPC", "ERR" }
     };
     const char(*names)[5] = NAMES[cat == 48 ? 0 : cat == 21 ? 1 : 2];
     bool first = true;

@@ -1,21 +1,35 @@
 #!/usr/bin/env python3
-"""Makes docs/WRONG_PROGRAMS.md from the must-fail edits and from what the last `rt ci` or `rt must-fail` said of each (target/must-fail/):
+"""Makes docs/WRONG_PROGRAMS.md from the must-fail edits, from what the last `rt ci` or `rt must-fail` said of each
+(target/must-fail/), and from what the check of each crate takes (target/crate-seconds.json):
 
-    rt ci && python3 tests/ledger.py > docs/WRONG_PROGRAMS.md
+    rt ci && python3 tests/ledger.py --times && python3 tests/ledger.py > docs/WRONG_PROGRAMS.md
+
+`--times` proves each crate that has edits once more and keeps its CPU seconds; with crates behind it, only these.
 """
+import json
+import os
 import re
+import resource
+import subprocess
 import sys
 from pathlib import Path
 
 ROOT = Path(__file__).resolve().parent.parent
+SECONDS = ROOT / "target" / "crate-seconds.json"
+
+# the most CPU seconds that the edits of all crates may take together
+MOST = 1_100
 
 # the crates in the order of the layers, and what each of them promises
 PROMISES = [
     ("codec", "the definitions of the format: laws of codecs, chains, frames and edits"),
-    ("layout", "the papers as data, the categories' numbers, `present`, `with_item`, `without_item`, `number_at`, `is_one`"),
+    ("leaves", "`wide`, `wide64`, `octet`, `octet64`, `less`, `less64`"),
+    ("layout", "the papers as data; `is_known`, `items_of`, `longest_of`, `is_item`, `present`, `with_item`, "
+               "`without_item`, `number_at`, `is_one`"),
     ("scope", "01's operations as definitions: the edge octets and sheets computed from them"),
-    ("promises", "the three demands as theorems"),
-    ("tables", "`row_of`, `shape_at`, `spot_at`, `spot_of`"),
+    ("demands", "the three demands, and that the program which `scope` defines meets them"),
+    ("lengths", "`format_of`"),
+    ("shapes", "`shape_at`, `spot_at`, `spot_of`"),
     ("reader", "`read`, `survey`"),
     ("views", "`view_answer`, `view`, `choose_answer`, `choose`"),
     ("angle", "`udeg`"),
@@ -28,6 +42,7 @@ PROMISES = [
     ("replies", "the text of each answer"),
     ("requests", "`answer`"),
     ("exports", "`ref_read`, `ref_write`, `ref_view`, `ref_choose`, `ref_remove`, `ref_replace`, `ref_sheet`"),
+    ("promises", "the code computes the program of the demands, and each promise allows one result"),
     ("listing", "the private function behind `main`: what is written is the sheet of what was read"),
     ("lines", "`join`: the lines of the input, from what each read brings"),
     ("refdesk", "the private functions behind `main`: what is held between two reads is the front of a line"),
@@ -38,17 +53,22 @@ FIVE = [
     ("a reader or desk that refuses everything", "`reader/refuses_all`, `desk/refuses_all`"),
     ("a reader with one fixed record", "`reader/fixed_record`"),
     ("a sheet with one fixed angle", "`sheet/fixed_angle`, `angle/fixed`"),
-    ("a desk that copies the field through and edits nothing", "`desk/copies_field`; as a theorem `copied-through` (promises: `Edited`)"),
+    ("a desk that copies the field through and edits nothing",
+     "`desk/copies_field`; as a theorem `copied-through` (demands: `Edited`)"),
     ("a writer that writes nothing", "`writer/writes_nothing`"),
 ]
 
 
 def parts(edit):
-    """The sentence above an edit, and its old and new lines."""
-    text = edit.read_text()
-    why = [line[1:].strip() for line in text.splitlines() if line.startswith("#")]
-    pairs = re.findall(r"^old: (.*?)\nnew: (.*?)(?=\nold: |\n*\Z)", text, re.M | re.S)
-    return " ".join(why), pairs
+    """The sentence above an edit, and its old and new lines. rt passes over every line without one of the four marks,
+    so an old or a new text of several lines would leave the crate as it is."""
+    lines = edit.read_text().splitlines()
+    passed = [line for line in lines if line and not re.match(r"# |file: |old: |new:", line)]
+    assert not passed, (edit, passed)
+    why = [line[1:].strip() for line in lines if line.startswith("#")]
+    old = [line[5:] for line in lines if line.startswith("old: ")]
+    new = [line[4:].removeprefix(" ") for line in lines if line.startswith("new:")]
+    return " ".join(why), list(zip(old, new, strict=True))
 
 
 def changed(old, new):
@@ -80,32 +100,101 @@ def refused_in(crate, name):
     file, line = folder / name / found[1], int(found[2])
     if not file.exists():
         file = ROOT / "crates" / crate / found[1]
-    above = file.read_text().splitlines()[:line]
-    declared = next((m[1] for m in (re.match(r" {0,4}(?:pub |unfoldable |abbrev )*([^\s:(){}]+) : ", text) for text in reversed(above)) if m), "")
+    declares = re.compile(r" {0,4}(?:pub |unfoldable |abbrev )*([^\s:(){}]+) : ")
+    above = (declares.match(text) for text in reversed(file.read_text().splitlines()[:line]))
+    declared = next((name[1] for name in above if name), "")
     return f"`{found[1].replace('/Proof.antt', '')}`" + (f", `{declared}`" if declared else "")
 
 
-def main():
+def edits_of_crates():
+    """The edits of each crate, and that no crate with edits is left out."""
     edits = {crate: sorted((ROOT / "crates" / crate / "must-fail").glob("*.edit")) for crate, _ in PROMISES}
-    listed = {path for found in edits.values() for path in found}
-    missing = set(ROOT.glob("crates/*/must-fail/*.edit")) - listed
+    missing = set(ROOT.glob("crates/*/must-fail/*.edit")) - {path for found in edits.values() for path in found}
     assert not missing, missing
+    return {crate: found for crate, found in edits.items() if found}
+
+
+# ---- what the edits take: each proves its crate again
+
+
+def check(*crates):
+    """Proves the crates, one at a time, and what they stand on; the CPU seconds that this took."""
+    before = resource.getrusage(resource.RUSAGE_CHILDREN)
+    said = subprocess.run(["rt", "check", *crates], cwd=ROOT, env={**os.environ, "RT_JOBS": "1"},
+                          capture_output=True, text=True)
+    if said.returncode:
+        sys.exit(said.stdout + said.stderr)
+    after = resource.getrusage(resource.RUSAGE_CHILDREN)
+    return after.ru_utime + after.ru_stime - before.ru_utime - before.ru_stime
+
+
+def measure(crates):
+    """Keeps the CPU seconds of each crate's check. What it stands on is proved already and its stamp is removed, so
+    that it is checked anew and alone."""
+    check(*crates)
+    took = kept_seconds()
+    for crate in crates:
+        (ROOT / "target" / "stamp" / crate).unlink(missing_ok=True)
+        took[crate] = round(check(crate), 1)
+        SECONDS.write_text(json.dumps(took, indent=1, sort_keys=True) + "\n")
+        print(f"{crate}: {took[crate]} s", flush=True)
+
+
+def kept_seconds():
+    return json.loads(SECONDS.read_text()) if SECONDS.exists() else {}
+
+
+def cost(edits):
+    """The lines of the page that say what the edits of each crate take, and their sum."""
+    took = kept_seconds()
+    rows, total = [], 0
+    for crate, found in edits.items():
+        if crate not in took:
+            continue
+        product = len(found) * took[crate]
+        total += product
+        rows.append(f"| `{crate}` | {len(found)} | {took[crate]:.1f} | {product:.1f} |")
+    lines = ["Each of them proves its crate again, so it takes the CPU seconds of that crate's check.\n"]
+    if rows:
+        lines += ["| crate | edits | seconds | edits × seconds |", "|---|---|---|---|", *rows]
+        lines += [f"\nSum over the edits: {total:,.0f} CPU seconds, of at most {MOST:,}."]
+    unknown = [crate for crate in edits if crate not in took]
+    if unknown:
+        lines += [f"Not measured (`python3 tests/ledger.py --times` measures): {', '.join(unknown)}."]
+    return lines
+
+
+# ---- the page
+
+
+def main(words):
+    edits = edits_of_crates()
+    if words[:1] == ["--times"]:
+        measure(words[1:] or list(edits))
+        print("\n".join(cost(edits)))
+        return
     print("# Wrong programs\n")
-    print(f"{len(listed)} wrong programs, tried by `rt ci` at every run: each is the program with one or two lines changed to the same shape with another operand, and each is refused.")
-    print("The table says what was changed, the fact that no longer holds, and where the check first fails. `python3 tests/ledger.py` makes this page from the edits and the last run.\n")
+    count = sum(len(found) for found in edits.values())
+    print(f"{count} wrong programs, tried by `rt ci` at every run: each is the program with one or two lines changed "
+          "to the same shape with another operand, and each is refused.")
+    print("The table says what was changed, the fact that no longer holds, and where the check first fails. "
+          "`python3 tests/ledger.py` makes this page from the edits and the last run.\n")
     print("The five of 01, 'How firm each promise is':\n")
     print("| must be unable to meet the promise | refused as |\n|---|---|")
     for what, where in FIVE:
         print(f"| {what} | {where} |")
+    print("\n## What they take\n")
+    print("\n".join(cost(edits)))
     for crate, promise in PROMISES:
-        if not edits[crate]:
+        if crate not in edits:
             continue
         print(f"\n## {crate}: {promise}\n")
         print("| edit | changed | the fact | refused in |\n|---|---|---|---|")
         for edit in edits[crate]:
             why, pairs = parts(edit)
-            print(f"| `{edit.stem}` | {'; '.join(changed(*pair) for pair in pairs)} | {why} | {refused_in(crate, edit.stem)} |")
+            what = "; ".join(changed(*pair) for pair in pairs)
+            print(f"| `{edit.stem}` | {what} | {why} | {refused_in(crate, edit.stem)} |")
 
 
 if __name__ == "__main__":
-    sys.exit(main())
+    sys.exit(main(sys.argv[1:]))

@@ -1,7 +1,8 @@
 // Small total functions on octets and numbers that the layers above share.
-// Promises: each is one equation on numbers. Stands on nothing.
+// Promises: each is one equation. Stands on nothing.
 ghost use mathlib.Core.Path.{_≡_};
 ghost use Prim.Native.Nat.{_-_, _%_, _<_};
+ghost use lib.ListN.{take};
 
 // An octet as a number.
 pub fn wide(o: u8) -> usize
@@ -26,7 +27,8 @@ pub fn octet(n: usize) -> u8
 pub fn octet64(n: u64) -> u8
     ensures { λ r. ⌜ r ≡ n % 256 ⌝ }
 {
-    (n % 256) as u8
+    let low = n % 256;
+    low as u8
 }
 
 // What is left of a number after another is taken away, nothing where the other is larger.
@@ -42,8 +44,18 @@ pub fn less(a: usize, b: usize) -> usize
 pub fn less64(a: u64, b: u64) -> u64
     ensures { λ r. ⌜ r ≡ a - b ⌝ }
 {
-    if b < a {
-        return a - b;
+    if a <= b {
+        return 0;
     }
-    0
+    a - b
+}
+
+// At most so many octets in front.
+pub fn front<'a>(s: &'a [u8], n: usize) -> &'a [u8]
+    ensures { λ r. ⌜ now r ≡ take n (now (s .entry)) ⌝ }
+{
+    if n < s.len() {
+        return &s[..n];
+    }
+    s
 }

@@ -1,5 +1,6 @@
 // The program of 01 ('The sheet'): reads one category octet and a field from standard input, at most 256 octets, and writes their sheet to
-// standard output. Promises: what it hands to be written is the sheet of what it was handed, to the octet; what is read and written nothing can promise.
+// standard output. A read or a write that fails ends it, with a line on standard error.
+// Promises: what it hands to be written is the sheet of what it was handed, to the octet; what is read and written nothing can promise.
 // Stands on sheet alone.
 ghost use mathlib.Core.Path.{_≡_};
 ghost use Prim.Native.Nat.{_≤_};
@@ -11,16 +12,43 @@ use layout::Answer;
 // The octets of the input that count: a category, and a field as long as LEN can say.
 const MOST: usize = 256;
 
+// Instead of a count of octets: a read has failed.
+const FAILED: usize = MOST + 1;
+
 // Room for every sheet; the longest has 971 octets.
 const ROOM: usize = 1024;
 
-// What stands behind these octets is left unread.
 fn main() {
     let mut input = [0u8; MOST];
-    let n = io::read_full(0, &mut input);
+    let n = read_in(&mut input);
+    if MOST < n {
+        io::write_all(2, b"listing: standard input can't be read\n");
+        return;
+    }
     let mut output = [0u8; ROOM];
     let end = listed(&input[..n], &mut output);
-    io::write_all(1, &output[..end]);
+    if !io::write_all(1, &output[..end]) {
+        io::write_all(2, b"listing: the sheet can't be written\n");
+    }
+}
+
+// The input into the front of an array, to its end or as far as there is room; what stands behind is left unread. How many octets it has.
+fn read_in(input: &mut [u8]) -> usize
+    ensures { λ r. ⌜ (r ≤ 256 → r ≤ length (now (input .exit))) ⌝ }
+{
+    let mut done: usize = 0;
+    while done < input.len() {
+        let got = libc::read(0, &mut input[done..]);
+        if got < 0 {
+            return FAILED;
+        }
+        let n = io::count(got, &input[done..]);
+        if n == 0 {
+            return done;
+        }
+        done += n;
+    }
+    done
 }
 
 // The sheet into the front of the output; its length. With so much room it is never refused.

@@ -1,13 +1,11 @@
 -- The code computes a program: "The software takes every octet string, record and edit without a fault. Nobody has to
 -- check first". Of each operation three theorems:
 --   runs   its own compiled function meets its contract: from any memory with the arguments in it the run returns,
---          without
---          a fault (what `rt check` proves of it)
+--          without a fault (what `rt check` proves of it)
 --   asks   the contract asks nothing of the arguments
 --   gives  what the contract promises of the result is the program's result
--- The arguments are a list: args .0 is the first, args .1 .0 the second. One that is a slice is a reference, with
---          the octets
--- now behind it; `ends` are the arguments when the operation returns.
+-- The arguments are a list: args .0 is the first, args .1 .0 the second. One that is a slice is a reference, with the
+-- octets now behind it; `ends` are the arguments when the operation returns.
 use mathlib.Core.Path.{_≡_}
 use mathlib.Core.List.{List}
 use Prim.Native.Nat.{ℕ}
@@ -47,8 +45,8 @@ use Rattle.sheet.proofs.sheet.Reads as sheet-claims
 use Rattle.angle.proofs.udeg.Statement as udeg
 use Rattle.angle.proofs.udeg.Met as udeg-met
 use Rattle.angle.proofs.udeg.Reads as udeg-claims
-use Rattle.promises.specs.Demands.{Program}
-use Rattle.promises.specs.Defined.{handed, program}
+use Rattle.demands.specs.Demands.{Program}
+use Rattle.demands.specs.Defined.{handed, program}
 
 pub record Runs (Statement : Type 1 → Type 2) {L A R E : Type 0} (Pre : L → A → Type 0) (Post : L → A → R → E
     → Type 0)

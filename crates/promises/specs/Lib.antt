@@ -1,13 +1,5 @@
--- What a reader wants to know of the whole.
-pub mod Angles
-pub mod RoundTrips
-pub mod Edited
-pub mod Terms
-pub mod Demands
-pub mod Defined
-pub mod Kept
+-- What holds of the whole: the code computes a program that is as demanded, every promise allows one result, and a program in C has both round trips.
 pub mod Code
 pub mod Top
 pub mod Unique
-pub mod Longest
 pub mod Trips

@@ -1,9 +1,9 @@
 -- The whole in one theorem: the compiled code computes a program, from every input and without a fault, and that
 -- program meets the three demands.
-use Rattle.promises.specs.Demands.{Program, Demands}
-use Rattle.promises.specs.Defined.{program}
+use Rattle.demands.specs.Demands.{Program, Demands}
+use Rattle.demands.specs.Defined.{program}
 use Rattle.promises.specs.Code.{Computes, computed}
-use Rattle.promises.specs.Kept.{kept}
+use Rattle.demands.specs.Kept.{kept}
 
 pub record Top : Type 2 where
   pub does : Program

@@ -4,8 +4,8 @@ use Prim.Native.Nat.{ℕ, zero, suc, _+_}
 use Rattle.codec.specs.Codec.{Res, mapRes}
 use Rattle.codec.specs.Line.{Held}
 use Rattle.codec.specs.Item.{chain}
-use Rattle.tables.specs.Lines.{lineAt, firstAt, countAt}
-use Rattle.tables.specs.Shapes.{linesFrom}
+use Rattle.lengths.specs.Lines.{lineAt, firstAt, countAt}
+use Rattle.shapes.specs.Shapes.{linesFrom}
 use Rattle.reader.specs.Steps.{run}
 
 -- the chain whose first part is line b, with left further parts, after done others

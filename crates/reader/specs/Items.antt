@@ -6,7 +6,7 @@ use Rattle.codec.specs.Codec.{Res, got, bad, mapRes, opt}
 use Rattle.codec.specs.Line.{Line, Held, count, line}
 use Rattle.codec.specs.Item.{nothing, flagged, item}
 use Rattle.codec.specs.Laws.Long.{LongBy, many}
-use Rattle.tables.specs.Lines.{itemAt}
+use Rattle.shapes.specs.Shapes.{itemAt}
 use Rattle.reader.specs.Steps.{run}
 use Rattle.reader.specs.declared.lines.Step.{Step}
 use Rattle.reader.specs.Walk.{Stands}

@@ -8,7 +8,7 @@ use lib.ListN.{set}
 use lib.Signed.{leZ}
 use Rattle.codec.specs.Pick.{pick}
 use Rattle.codec.specs.Line.{Piece, spare, num, toNum, limit}
-use Rattle.tables.specs.Lines.{kindOf}
+use Rattle.lengths.specs.Lines.{kindOf}
 
 -- the pieces whose highest bit is below bit shift of n
 unfoldable pub numsAt : List Piece → ℕ → ℕ → List ℤ

@@ -6,7 +6,7 @@ use lib.ListN.{drop}
 use lib.Seq.{sets}
 use Rattle.codec.specs.Codec.{Res, got, bad, shift}
 use Rattle.codec.specs.Line.{Held, line}
-use Rattle.tables.specs.Lines.{lineAt}
+use Rattle.lengths.specs.Lines.{lineAt}
 use Rattle.reader.specs.declared.lines.Step.{Step}
 use Rattle.reader.specs.declared.lines.Step.the-variants.{Next, Refused}
 

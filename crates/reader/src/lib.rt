@@ -1,6 +1,6 @@
 // Reads a field of a category: `read` gives the answer and the record, `survey` the answer and where each item begins.
 // Promises: both answer what 01 defines, for every category and every octet string; octets from LEN on are never looked at.
-// Stands on tables; its module lines reads one chain part or subfield by its format.
+// Stands on lengths and shapes; its module lines reads one chain part or subfield by its format.
 ghost use mathlib.Core.Path.{_≡_};
 ghost use mathlib.Core.Bool.{true};
 ghost use mathlib.Core.List.{List};
@@ -15,8 +15,9 @@ ghost use Rattle.codec.specs.Field.{flags, allZero};
 ghost use Rattle.codec.specs.Meaning.{lenOf};
 ghost use Rattle.layout.specs.Papers.{known};
 ghost use Rattle.scope.specs.Reading.{readOf};
-ghost use Rattle.tables.specs.Lines.{lineAt, firstAt, countAt, itemAt, spotAt};
-ghost use Rattle.tables.specs.Shapes.{partsOk, spotOk, rowOk};
+ghost use Rattle.lengths.specs.Lines.{lineAt, firstAt, countAt};
+ghost use Rattle.shapes.specs.Shapes.{itemAt, partsOk};
+ghost use Rattle.shapes.specs.Spots.{spotAt, spotOk, rowOk};
 ghost use Rattle.reader.specs.Steps.{lineRun};
 ghost use Rattle.reader.specs.Walk.{Stands, Ready};
 ghost use Rattle.reader.specs.Chains.{chainRun, chainRoom};
@@ -35,7 +36,7 @@ use layout::Record;
 use layout::SLOTS;
 use layout::Surveyed;
 use lines::Step;
-use tables::NO_LINE;
+use shapes::NO_LINE;
 
 // The rest of a chain behind its part b, which began at a place and was answered by a: left further parts are defined, done came before.
 fn rest(
@@ -77,7 +78,7 @@ fn chain(s: &[u8], at: usize, b: usize, base: usize, left: usize, numbers: &mut 
 fn flag_of(b: usize) -> usize
     ensures { λ r. ⌜ r ≡ lineAt b .flag ⌝ }
 {
-    let format = tables::format_of(b);
+    let format = lengths::format_of(b);
     format.flag
 }
 
@@ -185,7 +186,7 @@ fn place(s: &[u8], at: usize, k: usize, there: bool, numbers: &mut Numbers) -> S
     ensures { λ r. ⌜ Stands (now (numbers .entry)) (spotAt k .1) (placeRun k there (now (s .entry)) at) r (now (numbers .exit)) ⌝ }
 {
     if there {
-        let spot = tables::spot_at(k);
+        let spot = shapes::spot_at(k);
         return item(
             s,
             at,
@@ -271,7 +272,7 @@ fn items(
     ensures { λ r. ⌜ WalkStands (now (numbers .entry)) (now (parts .entry)) (now (starts .entry)) (length (now (s .entry))) (itemsIn cat ind (now (s .entry))) r (now (numbers .exit)) (now (parts .exit)) (now (starts .exit)) ⌝ }
 {
     let n = layout::items_of(cat);
-    let first = tables::spot_of(cat);
+    let first = shapes::spot_of(cat);
     if no_spare(ind, n) {
         let a = row(s, first, n, ind, &mut *numbers, &mut *parts, &mut *starts);
         let Step::Next(_, next) = a else {

@@ -1,5 +1,5 @@
 // One line of the papers, a chain part or a subfield, read by its format of the table into the slots of the record.
-// Promises: `line` answers what the codec of the line answers at that place, and puts its numbers there. Stands on tables.
+// Promises: `line` answers what the codec of the line answers at that place, and puts its numbers there. Stands on lengths.
 ghost use mathlib.Core.Path.{_≡_};
 ghost use Prim.Native.Nat.{_+_, _-_, _*_, _^_, _/_, _%_, _≤_, _<_};
 ghost use lib.Dec.{T};
@@ -9,7 +9,7 @@ ghost use Rattle.codec.specs.Pick.{pick};
 ghost use Rattle.codec.specs.Signed.{toSigned};
 ghost use Rattle.codec.specs.Radix.{join, eights};
 ghost use Rattle.codec.specs.Line.{toNum, limit, inLimits};
-ghost use Rattle.tables.specs.Lines.{firstAt, countAt, kindOf, piecesFrom, narrow};
+ghost use Rattle.lengths.specs.Lines.{firstAt, countAt, kindOf, piecesFrom, narrow};
 ghost use Rattle.reader.specs.Numbers.{inside, numsAt, Took};
 ghost use Rattle.reader.specs.Steps.{stepOf, afterOf, lineRun};
 ghost use Rattle.layout.specs.Record.{SLOTS};
@@ -142,7 +142,7 @@ pub fn line(s: &[u8], at: usize, b: usize, base: usize, numbers: &mut Numbers) -
     ensures answer { λ r. ⌜ r ≡ stepOf (lineRun b (now (s .entry)) at) ⌝ }
     ensures kept { λ _. ⌜ now (numbers .exit) ≡ afterOf (now (numbers .entry)) (base + firstAt b) (now (numbers .exit)) (lineRun b (now (s .entry)) at) ⌝ }
 {
-    let format = tables::format_of(b);
+    let format = lengths::format_of(b);
     let k = format.octets;
     if leaves::less(s.len(), at) < k {
         return Step::Refused(5, at);

@@ -1,15 +1,17 @@
-// The co-process: answers each line of standard input by one line on standard output, in order, each before it waits for more input.
-// What a line is answered is answers' promise; here lines are put together from what each read brings. A last line without an end is answered too.
+// The co-process (docs/PROTOCOL.md): answers each line of standard input by one line on standard output, in order, each before it waits for more input.
+// A last line without a line feed is answered too. A read or a write that fails ends it, with a line on standard error.
+// Promises: between two reads it holds what is left of the input's last line, and nothing else; what a line is answered is requests' promise. What is
+// read and written nothing can promise.
 // tests/refdesk.py makes lines, and by an implementation of 01 of its own the answers.
+ghost use mathlib.Core.Path.{_≡_};
+ghost use Rattle.refdesk.specs.Turns.{Takes};
 
-// Held instead of a count of octets: a line longer than the 4,096 octets that are taken, and the end of the input.
-const TOO_LONG: usize = 4097;
-
-const OVER: usize = 4098;
+// Held instead of a count of octets: the input is over, or a read or a write has failed.
+const OVER: usize = lines::ROOM + 1;
 
 // A proved loop has to end, and nothing says that the input does: the turns are counted down from a number that no run uses up.
 fn main() {
-    let mut line = io::buffer();
+    let mut line = [0u8; lines::ROOM];
     let mut held: usize = 0;
     let mut turns = u64::MAX;
     while turns > 0 && held != OVER {
@@ -18,54 +20,59 @@ fn main() {
     }
 }
 
-// Reads once and answers each line that ends there; what is held then of the line that goes on.
+// Reads once and answers each line that ends there; how many octets are held then of the line that goes on.
 fn read_some(held: usize, line: &mut [u8]) -> usize {
     let mut octets = io::buffer();
     let got = libc::read(0, &mut octets);
+    if got < 0 {
+        return failed(b"refdesk: standard input can't be read\n");
+    }
     let n = io::count(got, &octets);
     if n == 0 {
-        if held != 0 {
-            answer_line(held, &*line);
-        }
-        return OVER;
+        return last(held, &*line);
     }
-    take_in(&octets[..n], held, line)
+    take_in(&octets[..n], held, &mut *line)
 }
 
-fn take_in(octets: &[u8], held: usize, line: &mut [u8]) -> usize {
+// What is left where the input ends is a line, if it has an octet.
+fn last(held: usize, line: &[u8]) -> usize {
+    if held != 0 {
+        answered(held, line);
+    }
+    OVER
+}
+
+fn take_in(octets: &[u8], held: usize, line: &mut [u8]) -> usize
+    ensures { λ r. ⌜ Takes (now (octets .entry)) held (now (line .entry)) r (now (line .exit)) ⌝ }
+{
     let mut so_far = held;
-    let mut i: usize = 0;
-    while i < octets.len() {
-        so_far = with_octet(octets[i], so_far, &mut *line);
-        i += 1;
+    let mut at: usize = 0;
+    while at < octets.len() && so_far != OVER {
+        let joined = lines::join(octets, at, so_far, &mut *line);
+        so_far = joined.held;
+        if joined.ended {
+            so_far = answered(joined.held, &*line);
+        }
+        at = joined.at;
     }
     so_far
 }
 
-// Octets behind the room for a line are left out, so that its rest makes no request of its own.
-fn with_octet(o: u8, held: usize, line: &mut [u8]) -> usize {
-    if o == b'\n' {
-        answer_line(held, &*line);
+// Answers the line whose octets are held; 0, since none is held then, or the end.
+fn answered(held: usize, line: &[u8]) -> usize
+    ensures { λ r. ⌜ ((r ≡ 16386 → ⊥) → r ≡ 0) ⌝ }
+{
+    let mut buf = io::buffer();
+    let n = requests::answer(leaves::front(line, held), &mut buf);
+    if io::write_all(1, &buf[..n]) {
         return 0;
     }
-    if held < line.len() {
-        line[held] = o;
-        return held + 1;
-    }
-    TOO_LONG
+    failed(b"refdesk: an answer can't be written\n")
 }
 
-// A line that is too long is no request, as the empty line is none.
-fn answer_line(held: usize, line: &[u8]) {
-    if held <= line.len() {
-        answer(&line[..held]);
-    } else {
-        answer(&line[..0]);
-    }
-}
-
-fn answer(line: &[u8]) {
-    let mut buf = io::buffer();
-    let n = answers::answer(line, &mut buf);
-    io::write_all(1, &buf[..n]);
+fn failed(what: &[u8]) -> usize
+    ensures { λ r. ⌜ r ≡ 16386 ⌝ }
+{
+    io::write_all(2, what);
+    OVER
 }

@@ -8,10 +8,10 @@ use Rattle.codec.specs.Item.{slots}
 use Rattle.layout.specs.Names.{Named, names048, names021, names007}
 use Rattle.layout.specs.Laws.Slots.{Holds}
 use Rattle.scope.specs.Sheet.{itemText}
-use Rattle.tables.specs.Lines.{itemAt}
+use Rattle.shapes.specs.Shapes.{itemAt}
 use Rattle.text.specs.Typing.{Types}
 
--- ---- the names of the items that some paper has, in the order of the tables
+-- ---- the names of the items that some paper has, in the order of the table of shapes
 
 abbrev pub nobody : Named
 nobody = record { name = []; keys = [] ∷ [] }

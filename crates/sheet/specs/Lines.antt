@@ -8,8 +8,8 @@ use lib.ListN.{take, drop}
 use Rattle.codec.specs.Pick.{pick}
 use Rattle.codec.specs.Item.{isOne}
 use Rattle.layout.specs.Record.{numberAt}
-use Rattle.tables.specs.Lines.{lineAt, firstAt}
-use Rattle.tables.specs.Shapes.{shapeAt}
+use Rattle.lengths.specs.Lines.{lineAt, firstAt}
+use Rattle.shapes.specs.Shapes.{shapeAt}
 use Rattle.sheet.specs.Keys.{span, keysFrom, keyed}
 
 -- line b is there: of the chain parts the first n, of the subfields those whose flag is 1

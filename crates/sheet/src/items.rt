@@ -1,5 +1,5 @@
 // The items of a field: the lines of an item that are there, with the keys of their numbers.
-// Promises: `named` types the text of an item, of those that some paper has. Stands on tables for the shape of an item, and on its numbers.
+// Promises: `named` types the text of an item, of those that some paper has. Stands on lengths and shapes for the lines of an item, and on its numbers.
 ghost use mathlib.Core.Path.{_≡_};
 ghost use mathlib.Core.List.{_++_};
 ghost use Prim.Native.Nat.{_+_, _-_, _≤_, _<_};
@@ -32,7 +32,7 @@ fn is_there(numbers: &Numbers, count: usize, b: usize, parts: usize, base: usize
     ensures { λ r. ⌜ r ≡ isThere (now (numbers .entry)) count b parts base ⌝ }
 {
     if parts == 0 {
-        let format = tables::format_of(b);
+        let format = lengths::format_of(b);
         return layout::is_one(layout::number_at(numbers, base + format.flag));
     }
     0 < count
@@ -53,7 +53,7 @@ fn line(
     ensures { λ r. ⌜ Types (lineKeyed (now (keys .entry)) (now (numbers .entry)) count b parts base) (now (buf .entry)) at (now (buf .exit)) r ⌝ }
 {
     if is_there(numbers, count, b, parts, base) {
-        let format = tables::format_of(b);
+        let format = lengths::format_of(b);
         return numbers::group(keys, 0, 0, numbers, base + format.first, at, &mut *buf);
     }
     at
@@ -105,7 +105,7 @@ fn item(
     requires { ⌜ (base ≤ 255) × (length (now keys) ≤ 1000) ⌝ }
     ensures { λ r. ⌜ Types (itemKeyed (now (keys .entry)) (now (numbers .entry)) count k base) (now (buf .entry)) at (now (buf .exit)) r ⌝ }
 {
-    let shape = tables::shape_at(k);
+    let shape = shapes::shape_at(k);
     let b = shape.0;
     let parts = shape.1;
     if parts == 0 {

@@ -3,6 +3,7 @@
 // Stands on reader for the record, on text for words and decimals, on angle, and on writer for its `deliver` alone.
 ghost use mathlib.Core.Path.{_≡_};
 ghost use mathlib.Core.Bool.{true};
+ghost use mathlib.Core.List.{_∷_};
 ghost use Prim.Native.Nat.{_+_, _≤_};
 ghost use lib.Dec.{T};
 ghost use lib.ListN.{length, drop};
@@ -10,7 +11,7 @@ ghost use Rattle.codec.specs.Field.{flags};
 ghost use Rattle.layout.specs.Names.{text};
 ghost use Rattle.layout.specs.Papers.{known};
 ghost use Rattle.scope.specs.Sheet.{decimal, keyLine, rowText, itemsText, refusalText, sheetOf, Listed};
-ghost use Rattle.tables.specs.Shapes.{spotOk, rowOk, itemsFrom, heldFrom};
+ghost use Rattle.shapes.specs.Spots.{spotOk, rowOk, itemsFrom, heldFrom};
 ghost use Rattle.text.specs.Typing.{Types};
 ghost use Rattle.sheet.specs.Items.{namedAt};
 ghost use Rattle.sheet.specs.Rows.{namesFrom, placeText, commaOf};
@@ -37,7 +38,7 @@ fn place(
     ensures { λ r. ⌜ Types (placeText k there count (now (numbers .entry))) (now (buf .entry)) at (now (buf .exit)) r ⌝ }
 {
     if there {
-        let spot = tables::spot_at(k);
+        let spot = shapes::spot_at(k);
         return items::named(
             leaves::wide(spot.0),
             leaves::wide(count),
@@ -132,7 +133,7 @@ fn names(
     }
     if layout::present(items, i) {
         let behind = comma(first, at, &mut *buf);
-        let spot = tables::spot_at(k);
+        let spot = shapes::spot_at(k);
         let next = name(leaves::wide(spot.0), behind, &mut *buf);
         return names(items, k + 1, i + 1, left - 1, false, next, &mut *buf);
     }
@@ -152,7 +153,7 @@ fn accepted(kept: Record, len: usize, at: usize, buf: &mut [u8; 4096]) -> usize
     requires { ⌜ (known (kept .cat) ≡ true) × (length (kept .numbers) ≡ SLOTS) ⌝ }
     ensures { λ r. ⌜ Types (recordText kept len) (now (buf .entry)) at (now (buf .exit)) r ⌝ }
 {
-    let first = tables::spot_of(kept.cat);
+    let first = shapes::spot_of(kept.cat);
     let n = layout::items_of(kept.cat);
     let parts = kept.parts;
     let numbers = kept.numbers;
@@ -170,17 +171,12 @@ fn category(cat: u8, at: usize, buf: &mut [u8; 4096]) -> usize
     text::pair(b"cat", cat as u64, at, &mut *buf)
 }
 
-// The whole text, from the start of the buffer on.
-fn typed(input: &[u8], buf: &mut [u8; 4096]) -> usize
-    ensures { λ r. ⌜ Types (sheetOf (now (input .entry))) (now (buf .entry)) 0 (now (buf .exit)) r ⌝ }
+// The sheet of a category and a field, from the start of a buffer on; the place behind it.
+pub fn listed(cat: u8, field: &[u8], buf: &mut [u8; 4096]) -> usize
+    ensures { λ r. ⌜ Types (sheetOf (cat ∷ now (field .entry))) (now (buf .entry)) 0 (now (buf .exit)) r ⌝ }
 {
-    if input.len() == 0 {
-        let next = text::word(b"cat=none\n", 0, &mut *buf);
-        return refusal(2, 0, next, &mut *buf);
-    }
-    let cat = input[0];
     let next = category(cat, 0, &mut *buf);
-    let reading = reader::read(cat, &input[1..]);
+    let reading = reader::read(cat, field);
     let answer = reading.answer;
     match answer {
         Answer::Accepted(len) => {
@@ -191,7 +187,18 @@ fn typed(input: &[u8], buf: &mut [u8; 4096]) -> usize
     }
 }
 
-// The sheet of an input into the front of an output, or 11. An input without an octet has a sheet too.
+// The sheet of an input, which has one without an octet too.
+fn typed(input: &[u8], buf: &mut [u8; 4096]) -> usize
+    ensures { λ r. ⌜ Types (sheetOf (now (input .entry))) (now (buf .entry)) 0 (now (buf .exit)) r ⌝ }
+{
+    if input.len() == 0 {
+        let next = text::word(b"cat=none\n", 0, &mut *buf);
+        return refusal(2, 0, next, &mut *buf);
+    }
+    listed(input[0], &input[1..], &mut *buf)
+}
+
+// The sheet of an input into the front of an output, or 11.
 pub fn sheet(input: &[u8], out: &mut [u8]) -> Answer
     ensures { λ r. ⌜ Listed (now (input .entry)) (now (out .entry)) r (now (out .exit)) ⌝ }
 {

@@ -44,3 +44,13 @@ signedIn w = pick (isSigned w) (signedValue w) (pos 2_147_483_648)
 -- the number below 0 of a magnitude, as the code makes it
 unfoldable pub below : ℕ → ℤ
 below m = pick (eqb m 0) (pos 2_147_483_648) (pick (ltb 2_147_483_648 m) (pos 2_147_483_648) (negsuc (m - 1)))
+
+-- ---- the value of a word where a number is wanted, 0 where it writes none
+
+unfoldable pub valueIn : ℕ → List ℕ → ℕ
+unfolding isNumber
+valueIn limit w = pick (isNumber limit w) (valueOf w) 0
+
+unfoldable pub wholeIn : List ℕ → ℤ
+unfolding isSigned signedValue
+wholeIn w = pick (isSigned w) (signedValue w) (pos 0)

@@ -1,10 +1,9 @@
--- The octets that a word writes: pairs of hex digits in either case, at most 300 pairs, or `-` for none.
+-- The octets that a word writes: pairs of hex digits in either case, at most 4,096 pairs, or `-` for none.
 use mathlib.Core.Bool.{Bool, true, _&&_}
 use mathlib.Core.List.{List, [], _∷_}
 use Prim.Native.Nat.{ℕ, _+_, _-_, _*_, _%_}
 use lib.Dec.{ltb, leb, eqb}
 use lib.ListN.{length, getD}
-use lib.Seq.{sets}
 use Rattle.codec.specs.Pick.{pick}
 
 abbrev pub between : ℕ → ℕ → ℕ → Bool
@@ -23,7 +22,7 @@ unfoldable pub isOctets : List ℕ → Bool
 unfolding areHex
 isOctets w =
     pick (eqb (length w) 1) (eqb (getD w 0 0) 45)
-    (leb 1 (length w) && (leb (length w) 600 && (eqb (length w % 2) 0 && areHex w)))
+    (leb 1 (length w) && (leb (length w) 8_192 && (eqb (length w % 2) 0 && areHex w)))
 
 -- the octet of two digits, the high one first
 unfoldable pub octetOf : ℕ → ℕ → ℕ
@@ -37,12 +36,16 @@ octetsOf [] = []
 octetsOf (a ∷ []) = []
 octetsOf (a ∷ b ∷ w) = octetOf a b ∷ octetsOf w
 
--- how many octets a word writes, or 301 where it is none
-unfoldable pub countIn : List ℕ → ℕ
+-- the octets of a word where octets are wanted; none where it writes none
+unfoldable pub octetsIn : List ℕ → List ℕ
 unfolding isOctets octetsOf
-countIn w = pick (isOctets w) (length (octetsOf w)) 301
+octetsIn w = pick (isOctets w) (octetsOf w) []
 
--- what an array holds with them in its front; as it was where the word is none
-unfoldable pub laidIn : List ℕ → List ℕ → List ℕ
-unfolding isOctets octetsOf
-laidIn w out = pick (isOctets w) (sets out 0 (octetsOf w)) out
+-- a list is one octet, as two digits; 0 where the word is none
+unfoldable pub isList : List ℕ → Bool
+unfolding areHex
+isList w = eqb (length w) 2 && areHex w
+
+unfoldable pub listIn : List ℕ → ℕ
+unfolding isList octetOf
+listIn w = pick (isList w) (octetOf (getD w 0 0) (getD w 1 0)) 0

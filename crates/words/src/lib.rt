@@ -1,17 +1,17 @@
-// Takes a line of words apart: one space stands between two words, numbers are plain decimals, octets are pairs of hex digits.
-// Promises: for every line the word, the number and the octets that stand there, or a value that none has where there is none; the number taken is the
-// number written. Stands on text, which says what a decimal means.
+// The words of a line and what each of them writes: one space stands between two words, numbers are plain decimals, octets are pairs of hex digits.
+// Promises: for every line its first word; for every word the number, the octets or the list that it writes, and whether it writes one; the number taken
+// is the number written. Stands on text, which says what a decimal means.
 ghost use mathlib.Core.Path.{_≡_};
 ghost use Prim.Native.Nat.{_+_, _-_, _*_, _<_, _≤_};
 ghost use lib.ListN.{length, drop, set};
 ghost use lib.Seq.{sets};
 ghost use Rattle.text.specs.Decimals.{isDigit};
-ghost use Rattle.words.specs.Lines.{wordLength, wordOf, afterOf, firstWord, behind, restAfter, same};
-ghost use Rattle.words.specs.Numbers.{leads, numberIn, below, signedIn};
-ghost use Rattle.words.specs.Octets.{hexDigit, areHex, isOctets, octetOf, octetsOf, countIn, laidIn};
+ghost use Rattle.words.specs.Lines.{wordLength, wordOf};
+ghost use Rattle.words.specs.Numbers.{leads, numberIn, below, signedIn, valueIn, wholeIn};
+ghost use Rattle.words.specs.Octets.{hexDigit, areHex, isOctets, octetOf, octetsOf, octetsIn, isList, listIn};
 
 // The most octets that a word of hex digits may stand for.
-pub const MOST: usize = 300;
+pub const MOST: usize = 4096;
 
 // ---- words
 
@@ -29,68 +29,12 @@ fn end(line: &[u8], at: usize) -> usize
     i
 }
 
-// The word in front of a line, and what follows it, its space included.
+// The word in front of a line.
 pub fn word<'a>(line: &'a [u8]) -> &'a [u8]
     ensures { λ r. ⌜ now r ≡ wordOf (now (line .entry)) ⌝ }
 {
     let stop = end(line, 0);
     &line[..stop]
-}
-
-pub fn after<'a>(line: &'a [u8]) -> &'a [u8]
-    ensures { λ r. ⌜ now r ≡ afterOf (now (line .entry)) ⌝ }
-{
-    let start = end(line, 0);
-    &line[start..]
-}
-
-// What follows the space that it begins with.
-fn inside<'a>(rest: &'a [u8]) -> &'a [u8]
-    ensures { λ r. ⌜ now r ≡ drop 1 (now (rest .entry)) ⌝ }
-{
-    if rest.len() == 0 {
-        return rest;
-    }
-    &rest[1..]
-}
-
-// Of what follows a word: the word behind the space that it begins with, and what follows that word in turn. Where nothing follows, the word is empty.
-pub fn first<'a>(rest: &'a [u8]) -> &'a [u8]
-    ensures { λ r. ⌜ now r ≡ firstWord (now (rest .entry)) ⌝ }
-{
-    word(inside(rest))
-}
-
-pub fn behind<'a>(rest: &'a [u8]) -> &'a [u8]
-    ensures { λ r. ⌜ now r ≡ behind (now (rest .entry)) ⌝ }
-{
-    after(inside(rest))
-}
-
-// What follows the first k words.
-pub fn behind_all<'a>(rest: &'a [u8], k: usize) -> &'a [u8]
-    ensures { λ r. ⌜ now r ≡ restAfter k (now (rest .entry)) ⌝ }
-{
-    if k == 0 {
-        return rest;
-    }
-    behind_all(behind(rest), k - 1)
-}
-
-pub fn is_same(a: &[u8], b: &[u8]) -> bool
-    ensures { λ r. ⌜ r ≡ same (now (a .entry)) (now (b .entry)) ⌝ }
-{
-    if a.len() != b.len() {
-        return false;
-    }
-    let mut i: usize = 0;
-    while i < a.len() {
-        if a[i] != b[i] {
-            return false;
-        }
-        i += 1;
-    }
-    true
 }
 
 // ---- numbers
@@ -174,6 +118,38 @@ pub fn signed(word: &[u8]) -> i64
     number(word, 2147483647) as i64
 }
 
+// ---- the value of a word of a kind, 0 where it is not of it
+
+pub fn small(word: &[u8]) -> u8
+    ensures { λ r. ⌜ r ≡ valueIn 255 (now (word .entry)) ⌝ }
+{
+    let n = number(word, 255);
+    if 255 < n {
+        return 0;
+    }
+    n as u8
+}
+
+pub fn room(word: &[u8]) -> usize
+    ensures { λ r. ⌜ r ≡ valueIn 300 (now (word .entry)) ⌝ }
+{
+    let n = number(word, 300);
+    if 300 < n {
+        return 0;
+    }
+    n as usize
+}
+
+pub fn whole(word: &[u8]) -> i32
+    ensures { λ r. ⌜ r ≡ wholeIn (now (word .entry)) ⌝ }
+{
+    let z = signed(word);
+    if 2147483647 < z {
+        return 0;
+    }
+    z as i32
+}
+
 // ---- octets
 
 // The value of a hex digit in either case; 16 for any other octet.
@@ -201,7 +177,7 @@ fn are_hex(word: &[u8]) -> bool
     true
 }
 
-fn is_octets(word: &[u8]) -> bool
+pub fn is_octets(word: &[u8]) -> bool
     ensures { λ r. ⌜ r ≡ isOctets (now (word .entry)) ⌝ }
 {
     if word.len() == 1 {
@@ -227,7 +203,7 @@ fn octet(high: u8, low: u8) -> u8
 }
 
 fn put(out: &mut [u8; MOST], at: usize, o: u8)
-    requires { ⌜ at < 300 ⌝ }
+    requires { ⌜ at < 4096 ⌝ }
     ensures { λ _. ⌜ now (out .exit) ≡ set (now (out .entry)) at o ⌝ }
 {
     out[at] = o;
@@ -235,7 +211,7 @@ fn put(out: &mut [u8; MOST], at: usize, o: u8)
 
 // The octets of a word into the front of an array.
 fn lay(word: &[u8], out: &mut [u8; MOST])
-    requires { ⌜ length (now word) ≤ 600 ⌝ }
+    requires { ⌜ length (now word) ≤ 8192 ⌝ }
     ensures { λ _. ⌜ now (out .exit) ≡ sets (now (out .entry)) 0 (octetsOf (now (word .entry))) ⌝ }
 {
     let mut i: usize = 0;
@@ -245,13 +221,34 @@ fn lay(word: &[u8], out: &mut [u8; MOST])
     }
 }
 
-// The octets that a word writes, into the front of an array, and how many; one more than it has room for where the word writes none.
+// The octets that a word writes, into the front of an array, and how many; none where it writes none.
 pub fn octets(word: &[u8], out: &mut [u8; MOST]) -> usize
-    ensures { λ r. ⌜ (r ≡ countIn (now (word .entry))) × (now (out .exit) ≡ laidIn (now (word .entry)) (now (out .entry))) ⌝ }
+    ensures { λ r. ⌜ (r ≡ length (octetsIn (now (word .entry)))) × (now (out .exit) ≡ sets (now (out .entry)) 0 (octetsIn (now (word .entry)))) ⌝ }
 {
     if is_octets(word) {
         lay(word, &mut *out);
         return word.len() / 2;
     }
-    MOST + 1
+    0
+}
+
+// ---- a list: one octet as two hex digits
+
+pub fn is_list(word: &[u8]) -> bool
+    ensures { λ r. ⌜ r ≡ isList (now (word .entry)) ⌝ }
+{
+    if word.len() != 2 {
+        return false;
+    }
+    are_hex(word)
+}
+
+// The octet of a list; 0 where the word is none.
+pub fn list(word: &[u8]) -> u8
+    ensures { λ r. ⌜ r ≡ listIn (now (word .entry)) ⌝ }
+{
+    if is_list(word) {
+        return octet(word[0], word[1]);
+    }
+    0
 }

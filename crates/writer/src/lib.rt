@@ -1,6 +1,6 @@
 // Writes a record as a field: `write` answers its length and leaves the field in the front of the output.
 // Promises: the answer and every octet of the output are what 01 defines, for every value of the record; a refusal writes nothing.
-// Stands on tables, by which it lays the octets, and on reader's promise: a record is right exactly if what is laid of it reads back to it.
+// Stands on lengths and shapes, by which it lays the octets, and on reader's promise: a record is right exactly if what is laid of it reads back to it.
 ghost use mathlib.Core.Path.{_≡_};
 ghost use mathlib.Core.Bool.{true};
 ghost use mathlib.Core.List.{List};
@@ -14,8 +14,9 @@ ghost use Rattle.codec.specs.Item.{nothing, flagged, chain, subfields, item};
 ghost use Rattle.codec.specs.Field.{flags, row};
 ghost use Rattle.layout.specs.Papers.{known};
 ghost use Rattle.layout.specs.Laws.Slots.{Holds};
-ghost use Rattle.tables.specs.Lines.{lineAt, firstAt, countAt, itemAt};
-ghost use Rattle.tables.specs.Shapes.{linesFrom, flagsUnder, inTurn, spotOk, rowOk, itemsFrom, numbersOn, heldFrom};
+ghost use Rattle.lengths.specs.Lines.{lineAt, firstAt, countAt};
+ghost use Rattle.shapes.specs.Shapes.{itemAt, linesFrom, flagsUnder, inTurn};
+ghost use Rattle.shapes.specs.Spots.{spotOk, rowOk, itemsFrom, numbersOn, heldFrom};
 ghost use Rattle.scope.specs.Outputs.{withRoom, Leaves};
 ghost use Rattle.scope.specs.Writing.{Wrote};
 ghost use Rattle.writer.specs.Laying.{Lays};
@@ -77,7 +78,7 @@ fn subfield(numbers: &Numbers, b: usize, base: usize, at: usize, octets: &mut Fi
     requires { ⌜ base ≤ 255 ⌝ }
     ensures { λ r. ⌜ ((zs us : List ℤ) → Holds (now (numbers .entry)) base zs → T (ltb (lineAt b .flag) (length zs)) → Holds (now (numbers .entry)) (base + firstAt b) us → Lays (opt (nothing (countAt b)) (flagged zs (lineAt b)) (line (lineAt b))) (0, us) (now (octets .entry)) at (now (octets .exit)) r) ⌝ }
 {
-    let format = tables::format_of(b);
+    let format = lengths::format_of(b);
     let z = layout::number_at(numbers, base + format.flag);
     if layout::is_one(z) {
         return lines::line(numbers, b, base, 0, at, &mut *octets);
@@ -109,7 +110,7 @@ fn item(numbers: &Numbers, count: u8, k: usize, base: usize, at: usize, octets: 
     requires { ⌜ base ≤ 255 ⌝ }
     ensures { λ r. ⌜ ((zs : List ℤ) → Holds (now (numbers .entry)) base zs → Lays (item (itemAt k)) (count, zs) (now (octets .entry)) at (now (octets .exit)) r) ⌝ }
 {
-    let shape = tables::shape_at(k);
+    let shape = shapes::shape_at(k);
     let b = shape.0;
     let parts = shape.1;
     if parts == 0 {
@@ -132,7 +133,7 @@ fn place(
     ensures { λ r. ⌜ Lays (placeOn k there) (count, numbersOn k (now (numbers .entry))) (now (octets .entry)) at (now (octets .exit)) r ⌝ }
 {
     if there {
-        let spot = tables::spot_at(k);
+        let spot = shapes::spot_at(k);
         return item(
             numbers,
             count,
@@ -181,7 +182,7 @@ fn lay(cat: u8, items: u8, parts: &[u8; 8], numbers: &Numbers, octets: &mut Fiel
     requires { ⌜ (known cat ≡ true) × (length (now octets) ≡ LONGEST) ⌝ }
     ensures { λ _. ⌜ Laid (made cat items (now (parts .entry)) (now (numbers .entry))) (now (octets .entry)) (now (octets .exit)) ⌝ }
 {
-    let first = tables::spot_of(cat);
+    let first = shapes::spot_of(cat);
     let n = layout::items_of(cat);
     octets[1] = items;
     let end = row(items, parts, numbers, first, 0, n, 2, &mut *octets);

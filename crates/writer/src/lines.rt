@@ -1,5 +1,5 @@
 // One line of the papers, a chain part or a subfield, laid by its format of the table from the slots of the record.
-// Promises: `line` puts the octets that the codec of the line writes, if the numbers fit it and there is room. Stands on tables.
+// Promises: `line` puts the octets that the codec of the line writes, if the numbers fit it and there is room. Stands on lengths.
 ghost use mathlib.Core.Path.{_≡_};
 ghost use mathlib.Core.List.{List};
 ghost use Prim.Native.Nat.{_+_, _*_, _^_, _≤_, _<_};
@@ -8,7 +8,7 @@ ghost use lib.ListN.{set};
 ghost use lib.Seq.{sets};
 ghost use Rattle.codec.specs.Radix.{total, cut, eights};
 ghost use Rattle.codec.specs.Line.{widths, line};
-ghost use Rattle.tables.specs.Lines.{lineAt, firstAt, piecesFrom};
+ghost use Rattle.lengths.specs.Lines.{lineAt, firstAt, piecesFrom};
 ghost use Rattle.layout.specs.Laws.Slots.{Holds};
 ghost use Rattle.writer.specs.Digits.{lowBits, gathered};
 ghost use Rattle.writer.specs.Laying.{Lays};
@@ -86,7 +86,7 @@ pub fn line(
     requires { ⌜ base ≤ 255 ⌝ }
     ensures { λ r. ⌜ ((zs : List ℤ) → Holds (now (numbers .entry)) (base + firstAt b) zs → Lays (line (lineAt b)) (fx, zs) (now (octets .entry)) at (now (octets .exit)) r) ⌝ }
 {
-    let format = tables::format_of(b);
+    let format = lengths::format_of(b);
     let k = format.octets;
     if LONGEST - k < at {
         return at;

@@ -5,7 +5,7 @@ use native.Mathlib.Nat.{le-trans}
 use native.Mathlib.Omega.{arith}
 use borrow.Author.Needs.{needs}
 use denote.Ref.{now}
-use Rattle.tables.specs.Lines.{firstAt}
+use Rattle.lengths.specs.Lines.{firstAt}
 use Rattle.reader.specs.Laws.Walk.{stands}
 use Rattle.reader.specs.Laws.Chains.{rest-ok, room-line, room-next, walk-stop, walk-over, walk-end, next-ready, walk-on}
 use borrow.Fn.Kinds.{In}

@@ -1,7 +1,7 @@
 -- `reader::flag_of` meets its contract. Assumes nothing.
 use mathlib.Core.Path.{ap}
 use borrow.Author.Needs.{needs}
-use Rattle.tables.specs.declared.Format.{Format}
+use Rattle.lengths.specs.declared.Format.{Format}
 use Rattle.reader.proofs.flag_of.Statement.{statement}
 use Rattle.reader.proofs.flag_of.Tie as tie
 

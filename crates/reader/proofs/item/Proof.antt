@@ -9,8 +9,8 @@ use Rattle.codec.specs.Laws.Arms.{past}
 use Rattle.layout.specs.Cat048.{cat048}
 use Rattle.layout.specs.Cat021.{cat021}
 use Rattle.layout.specs.Cat007.{cat007}
-use Rattle.tables.specs.Lines.{items, placedFrom, placedIn, placed, placedAt, itemAt}
-use Rattle.tables.specs.Shapes.{linesFrom, partsOk, flagsUnder, itemOf}
+use Rattle.lengths.specs.Lines.{items, placedFrom, placedIn, placed, placedAt}
+use Rattle.shapes.specs.Shapes.{itemAt, linesFrom, partsOk, flagsUnder, itemOf}
 use Rattle.reader.specs.Steps.{lineRun}
 use Rattle.reader.specs.Chains.{chainRoom}
 use Rattle.reader.specs.Items.{itemRun}

@@ -7,8 +7,8 @@ use Rattle.codec.specs.Item.{linesOf, slotsOf}
 use Rattle.layout.specs.Cat048.{cat048}
 use Rattle.layout.specs.Cat021.{cat021}
 use Rattle.layout.specs.Cat007.{cat007}
-use Rattle.tables.specs.Lines.{items, placedFrom, placedIn, placed, placedAt, itemAt}
-use Rattle.tables.specs.Shapes.{linesFrom, partsOk, flagsUnder, itemOf}
+use Rattle.lengths.specs.Lines.{items, placedFrom, placedIn, placed, placedAt}
+use Rattle.shapes.specs.Shapes.{itemAt, linesFrom, partsOk, flagsUnder, itemOf}
 use Rattle.reader.specs.Laws.Walk.{stands-same}
 use Rattle.reader.specs.Chains.{chainRoom}
 use Rattle.reader.specs.Items.{itemRun}

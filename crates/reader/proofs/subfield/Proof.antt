@@ -12,7 +12,7 @@ use mir.Syntax.{w32}
 use mir.Val.{toZ, ofZ, SFits}
 use mir.Facts.{toZ-ofZ}
 use Rattle.codec.specs.Item.{isOne}
-use Rattle.tables.specs.Lines.{lineAt, firstAt}
+use Rattle.lengths.specs.Lines.{lineAt, firstAt}
 use Rattle.reader.specs.Laws.Walk.{stands}
 use Rattle.reader.specs.Laws.Items.{sub-stop, sub-absent, sub-bad, sub-got}
 use Rattle.layout.specs.Record.{SLOTS}

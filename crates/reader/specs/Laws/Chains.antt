@@ -14,9 +14,9 @@ use Rattle.codec.specs.Line.{Held, line}
 use Rattle.codec.specs.Item.{slotsOf, nothing, beside, chain}
 use Rattle.codec.specs.Laws.Tests.{and-l, and-r, not-one}
 use Rattle.codec.specs.Laws.Long.{LongBy, many, long-shift, long-line, Under, under-line, under-shift}
-use Rattle.tables.specs.Lines.{lineAt, firstAt, countAt}
+use Rattle.lengths.specs.Lines.{lineAt, firstAt, countAt}
 use Rattle.codec.specs.Laws.Sets.{sets-append}
-use Rattle.tables.specs.Shapes.{linesFrom, partsOk}
+use Rattle.shapes.specs.Shapes.{linesFrom, partsOk}
 use Rattle.reader.specs.Steps.{run, lineRun}
 use Rattle.reader.specs.declared.lines.Step.{Step}
 use Rattle.reader.specs.declared.lines.Step.the-variants.{Next, Refused}

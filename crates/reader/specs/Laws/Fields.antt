@@ -21,9 +21,8 @@ use Rattle.layout.specs.declared.Answer.{Answer}
 use Rattle.layout.specs.declared.Answer.the-variants.{Accepted, Refused}
 use Rattle.layout.specs.Papers.{known, paperOf, itemsOf}
 use Rattle.layout.specs.Laws.Papers.{few-items}
-use Rattle.tables.specs.Lines.{spotAt, spotOf}
-use Rattle.tables.specs.Shapes.{itemOn, rowOk, itemsFrom}
-use Rattle.tables.specs.Laws.Spots.{Spots, spots-right}
+use Rattle.shapes.specs.Spots.{spotAt, spotOf, itemOn, rowOk, itemsFrom}
+use Rattle.shapes.specs.Laws.Spots.{Spots, spots-right}
 use Rattle.reader.specs.Steps.{run}
 use Rattle.reader.specs.declared.lines.Step.{Step}
 use Rattle.reader.specs.declared.lines.Step.the-variants.{Next}
@@ -33,7 +32,7 @@ use Rattle.reader.specs.Laws.Walk.{run-map, run-then, thenAt}
 use Rattle.reader.specs.Rows.{placeRun, Found, found, goOn, rowFrom, rowStep, RowStands}
 use Rattle.reader.specs.Fields.{ends, itemsIn, walkOf, asAnswer, WalkStands}
 
--- ---- the row of the tables is the row of the codec
+-- ---- the row of spots is the row of the codec
 
 held : Res Found → Res (List Held)
 held x = mapRes (λ (f : Found). f .0) x

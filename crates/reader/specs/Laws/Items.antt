@@ -13,9 +13,10 @@ use Rattle.codec.specs.Line.{Line, Held, count, line}
 use Rattle.codec.specs.Item.{chained, slotsOf, nothing, beside, chain, isOne, flagged, subfields, item}
 use Rattle.codec.specs.Laws.Tests.{and-l, and-r}
 use Rattle.codec.specs.Laws.Long.{LongBy, many, long-shift, long-line, long-opt, long-chain}
-use Rattle.tables.specs.Lines.{NO_LINE, lineAt, firstAt, countAt}
-use Rattle.tables.specs.Laws.Lines.{past-lines, past-item}
-use Rattle.tables.specs.Shapes.{linesFrom, flagsUnder, itemOf}
+use Rattle.lengths.specs.Lines.{lineAt, firstAt, countAt}
+use Rattle.lengths.specs.Laws.Lines.{past-lines}
+use Rattle.shapes.specs.Shapes.{NO_LINE, linesFrom, flagsUnder, itemOf}
+use Rattle.shapes.specs.Laws.Shapes.{past-item}
 use Rattle.codec.specs.Laws.Sets.{sets-append}
 use Rattle.reader.specs.Steps.{stepOf, afterOf, run, lineRun}
 use Rattle.reader.specs.declared.lines.Step.{Step}

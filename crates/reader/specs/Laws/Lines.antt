@@ -18,11 +18,11 @@ use Rattle.codec.specs.Codec.{got, bad}
 use Rattle.codec.specs.Line.{Line, widths, count, clear, nums, inLimits, line, fills}
 use Rattle.codec.specs.Laws.Radix.{total-eights}
 use Rattle.codec.specs.Laws.Line.{wholeOf, digitsOf, line-short, line-spare, line-limit, line-there}
-use Rattle.tables.specs.declared.Format.{Format}
-use Rattle.tables.specs.Lines.{placedAt, lineAt, firstAt, countAt, piecesFrom, spareMask, formatOf}
-use Rattle.tables.specs.Laws.Lines.{line-filled}
-use Rattle.tables.specs.Laws.Mask.{spare-test}
-use Rattle.tables.specs.Laws.Formats.{format-octets, format-pieces, format-fx, format-first}
+use Rattle.lengths.specs.declared.Format.{Format}
+use Rattle.lengths.specs.Lines.{placedAt, lineAt, firstAt, countAt, piecesFrom, spareMask, formatOf}
+use Rattle.lengths.specs.Laws.Lines.{line-filled}
+use Rattle.lengths.specs.Laws.Mask.{spare-test}
+use Rattle.lengths.specs.Laws.Formats.{format-octets, format-pieces, format-fx, format-first}
 use Rattle.reader.specs.Steps.{stepOf, afterOf, lineRun}
 use Rattle.reader.specs.Numbers.{numsAt}
 use Rattle.reader.specs.Laws.Numbers.{nums-at, length-nums-at}

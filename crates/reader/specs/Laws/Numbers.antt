@@ -15,8 +15,8 @@ use Rattle.codec.specs.Signed.{toSigned}
 use Rattle.codec.specs.Radix.{total, cut}
 use Rattle.codec.specs.Line.{Kind, Piece, spare, num, toNum, limit, widths, count, nums, inLimits}
 use Rattle.codec.specs.Laws.Tests.{and-l, and-r}
-use Rattle.tables.specs.Lines.{kindOf, piecesFrom, narrow}
-use Rattle.tables.specs.Laws.Formats.{more-spare, more-num}
+use Rattle.lengths.specs.Lines.{kindOf, piecesFrom, narrow}
+use Rattle.lengths.specs.Laws.Formats.{more-spare, more-num}
 use Rattle.reader.specs.Numbers.{numsAt, inside, Took}
 use Rattle.layout.specs.Record.{SLOTS}
 

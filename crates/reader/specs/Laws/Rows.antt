@@ -15,10 +15,10 @@ use Rattle.codec.specs.Field.{firstFlag, nextFlags}
 use Rattle.codec.specs.Laws.Tests.{and-l, and-r}
 use Rattle.codec.specs.Laws.Long.{LongBy, many, long-shift, long-opt, long-item}
 use Rattle.layout.specs.Record.{SLOTS, allParts, allNumbers}
-use Rattle.tables.specs.Lines.{itemAt, spotAt}
+use Rattle.shapes.specs.Shapes.{itemAt}
+use Rattle.shapes.specs.Spots.{spotAt, itemOn, spotOk, rowOk}
 use Rattle.codec.specs.Laws.Sets.{sets-append}
-use Rattle.tables.specs.Shapes.{itemOn, spotOk, rowOk}
-use Rattle.tables.specs.Laws.Runs.{first-drop, next-drop}
+use Rattle.shapes.specs.Laws.Runs.{first-drop, next-drop}
 use Rattle.reader.specs.declared.lines.Step.{Step}
 use Rattle.reader.specs.declared.lines.Step.the-variants.{Next, Refused}
 use Rattle.reader.specs.Walk.{Stands, Ready}

@@ -25,9 +25,8 @@ use Rattle.layout.specs.declared.Answer.the-variants.{Accepted, Refused}
 use Rattle.layout.specs.Papers.{paperOf, itemsOf}
 use Rattle.layout.specs.Laws.Papers.{good-paper, few-items}
 use Rattle.scope.specs.Survey.{startsFrom, surveyed, surveyOf}
-use Rattle.tables.specs.Lines.{spotOf}
-use Rattle.tables.specs.Shapes.{itemOn, itemsFrom}
-use Rattle.tables.specs.Laws.Spots.{spots-right}
+use Rattle.shapes.specs.Spots.{spotOf, itemOn, itemsFrom}
+use Rattle.shapes.specs.Laws.Spots.{spots-right}
 use Rattle.layout.specs.declared.Surveyed.{Surveyed}
 use Rattle.reader.specs.Rows.{placeRun, Found, found, goOn, rowFrom}
 use Rattle.reader.specs.Fields.{walkOf, answerTo, outAfter, WalkStands}

@@ -25,9 +25,8 @@ use Rattle.layout.specs.Papers.{known, paperOf, itemsOf}
 use Rattle.layout.specs.Record.{SLOTS, allParts, allNumbers, allSlots, flatten}
 use Rattle.layout.specs.Laws.Papers.{few-items, few-slots}
 use Rattle.scope.specs.Reading.{fieldOf, noRecord, shown, readOf}
-use Rattle.tables.specs.Lines.{spotOf}
-use Rattle.tables.specs.Shapes.{itemOn, itemsFrom}
-use Rattle.tables.specs.Laws.Spots.{spots-right}
+use Rattle.shapes.specs.Spots.{spotOf, itemOn, itemsFrom}
+use Rattle.shapes.specs.Laws.Spots.{spots-right}
 use Rattle.reader.specs.Walk.{Ready}
 use Rattle.reader.specs.Rows.{placeRun, Found, found, goOn, rowFrom}
 use Rattle.reader.specs.Laws.Rows.{place-many}

@@ -19,11 +19,11 @@ use Rattle.layout.specs.Names.{Key, Named, names048, names021, names007}
 use Rattle.layout.specs.Record.{numberAt}
 use Rattle.layout.specs.Laws.Slots.{Holds, holds-take, holds-drop}
 use Rattle.scope.specs.Sheet.{decimal, keyLine, numberText, numbersText, chainText, itemText, partsThere, subfieldsThere, linesThere, linesText}
-use Rattle.tables.specs.Lines.{NO_LINE, items, noLine, placedAt, lineAt, firstAt, countAt, itemAt}
-use Rattle.tables.specs.Shapes.{linesFrom, flagsUnder, itemOf, shapeAt, shapes, shapesFrom, shapeOf, inTurn}
-use Rattle.tables.specs.Laws.Lines.{every-at, past-item}
-use Rattle.tables.specs.Laws.Runs.{turn-first, turn-rest}
-use Rattle.tables.specs.Laws.Shapes.{Shaped, shaped-well, shape-single, shape-chained}
+use Rattle.lengths.specs.Lines.{items, noLine, placedAt, lineAt, firstAt, countAt}
+use Rattle.lengths.specs.Laws.Lines.{every-at}
+use Rattle.shapes.specs.Shapes.{NO_LINE, itemAt, linesFrom, flagsUnder, itemOf, shapeAt, shapes, shapesFrom, shapeOf, inTurn}
+use Rattle.shapes.specs.Laws.Shapes.{past-item, Shaped, shaped-well, shape-single, shape-chained}
+use Rattle.shapes.specs.Laws.Runs.{turn-first, turn-rest}
 use Rattle.text.specs.Typing.{Types}
 use Rattle.text.specs.Laws.Typing.{types-as, types-none}
 use Rattle.sheet.specs.Keys.{span, keysFrom, keyed}

@@ -13,9 +13,9 @@ use lib.Seq.{drop-cons, take-all}
 use Rattle.codec.specs.Pick.{pick}
 use Rattle.codec.specs.Item.{isOne}
 use Rattle.layout.specs.Record.{numberAt}
-use Rattle.tables.specs.declared.Shape.{Shape}
-use Rattle.tables.specs.Lines.{lineAt, firstAt}
-use Rattle.tables.specs.Shapes.{shapeAt}
+use Rattle.lengths.specs.Lines.{lineAt, firstAt}
+use Rattle.shapes.specs.declared.Shape.{Shape}
+use Rattle.shapes.specs.Shapes.{shapeAt}
 use Rattle.text.specs.Typing.{Types}
 use Rattle.text.specs.Laws.Typing.{types-as, types-behind, types-none}
 use Rattle.sheet.specs.Keys.{span, keysFrom, keyed}

@@ -31,9 +31,8 @@ use Rattle.scope.specs.Reading.{fieldOf, shown, readOf}
 use Rattle.scope.specs.Sheet.{decimal, keyLine, rowText, itemsText, refusalText, fieldText, sheetOf}
 use Rattle.layout.specs.Laws.Answer.{Accepted≢Refused}
 use Rattle.scope.specs.Laws.Reading.{Read, read-found, read-front}
-use Rattle.tables.specs.Lines.{spotAt, spots, spotsFrom, spotOf}
-use Rattle.tables.specs.Shapes.{itemsFrom, heldFrom}
-use Rattle.tables.specs.Laws.Spots.{spots-right}
+use Rattle.shapes.specs.Spots.{spotAt, spots, spotsFrom, spotOf, itemsFrom, heldFrom}
+use Rattle.shapes.specs.Laws.Spots.{spots-right}
 use Rattle.text.specs.Typing.{Types}
 use Rattle.text.specs.Laws.Typing.{types-as, types-behind, typed-front}
 use Rattle.text.specs.Laws.Longest.{sheet-longest}

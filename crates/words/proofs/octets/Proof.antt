@@ -26,4 +26,4 @@ returns-2 c =
     octets-none (now (a .word)) (now (a .out)) (sym (o .is-octets .ensures) ∙ c .if1 .left)
 
 pub octets-spec : {M : Type 1} → statement M
-octets-spec = tie.close (tie.spec (λ c κs. tt) lay-requires returns (λ c. search needs) returns-2)
+octets-spec = tie.close (tie.spec (λ c κs. tt) lay-requires returns returns-2)

@@ -1,21 +1,21 @@
 -- The number that a word writes. A number is a plain decimal, as `decimal` and `signedDecimal` (01, 'The sheet') write it: digits only, no 0 in front but of 0 itself,
 -- and a `-` only before a number below 0. So a number is written by one word, and a word writes at most one number.
-use mathlib.Core.Path.{_≡_, refl, sym, _∙_}
+use mathlib.Core.Path.{_≡_, refl, sym, ap, _∙_}
 use mathlib.Core.Bool.{Bool, true, false, not, _&&_}
 use mathlib.Core.List.{List, [], _∷_}
 use Prim.Native.Nat.{ℕ, zero, suc, _+_, _-_, _*_, _≤_, _<_}
 use native.Mathlib.Numerals.{add-one}
 use native.Mathlib.Omega.{arith}
-use borrow.Author.Tests.{eq-eqb, ne-eqb, le-leb, lt-leb, lt-ltb, le-ltb, ltb-true, leb-true}
+use borrow.Author.Tests.{eq-eqb, ne-eqb, le-leb, lt-leb, lt-ltb, le-ltb, ltb-true, leb-true, not-true, not-false}
 use lib.Dec.{ltb, leb, eqb, leb·suc-suc}
-use lib.IntN.{pos, negsuc}
+use lib.IntN.{ℤ, pos, negsuc}
 use lib.ListN.{length, getD, drop}
 use lib.Signed.{mag, ltZ}
 use lib.Seq.{drop-cons}
 use Rattle.codec.specs.Pick.{pick}
 use Rattle.text.specs.Decimals.{valueFrom, valueOf, isDigit}
 use Rattle.text.specs.Laws.Decimals.{areDigits}
-use Rattle.words.specs.Numbers.{leads, goesOn, isNumber, numberIn, isSigned, signedValue, signedIn, below}
+use Rattle.words.specs.Numbers.{leads, goesOn, isNumber, numberIn, isSigned, signedValue, signedIn, below, valueIn, wholeIn}
 
 -- ---- the ways through `number`: the answer from here on, v being what the digits passed say
 
@@ -216,3 +216,43 @@ signed-fits w = by-form (isSigned w) refl
 
 pub signed-small : (w : List ℕ) → isSigned w ≡ true → mag (signedIn w) < 2_147_483_648
 signed-small w e = rw (signed-value w e) (signed-size w e .0)
+
+-- ---- the ways out of `small`, `room` and `whole`
+
+module _ (limit : ℕ) (w : List ℕ) {n : ℕ} (en : n ≡ numberIn limit w) where
+  within : ltb n (limit + 1) ≡ isNumber limit w
+  within = ap (λ k. ltb k (limit + 1)) en ∙ number-fits limit w
+
+  pub value-past : limit < n → 0 ≡ valueIn limit w
+  unfolding valueIn
+  value-past h = rw (sym within ∙ le-ltb n (limit + 1) (omega arith)) refl
+
+  pub value-here : n ≤ limit → n ≡ valueIn limit w
+  unfolding valueIn
+  value-here h = let t : isNumber limit w ≡ true = sym within ∙ lt-ltb n (limit + 1) (omega arith) in rw t (en ∙ number-value limit w t)
+
+pub value-most : (limit : ℕ) (w : List ℕ) → valueIn limit w ≤ limit
+unfolding valueIn
+value-most limit w = by-form (isNumber limit w) refl
+  where
+    by-form : (b : Bool) → isNumber limit w ≡ b → pick b (valueOf w) 0 ≤ limit
+    by-form true t = number-most limit w t
+    by-form false t = omega arith
+
+module _ (w : List ℕ) {z : ℤ} (ez : z ≡ signedIn w) where
+  signed-test : ltZ (pos 2_147_483_647) z ≡ not (isSigned w)
+  signed-test = ap (ltZ (pos 2_147_483_647)) ez ∙ signed-fits w
+
+  form : ltZ (pos 2_147_483_647) z ≡ false → isSigned w ≡ true
+  form t = not-false (isSigned w) (sym signed-test ∙ t)
+
+  pub whole-past : ltZ (pos 2_147_483_647) z ≡ true → pos 0 ≡ wholeIn w
+  unfolding wholeIn
+  whole-past t = rw (not-true (isSigned w) (sym signed-test ∙ t)) refl
+
+  pub whole-here : ltZ (pos 2_147_483_647) z ≡ false → z ≡ wholeIn w
+  unfolding wholeIn
+  whole-here t = rw (form t) (ez ∙ signed-value w (form t))
+
+  pub whole-width : ltZ (pos 2_147_483_647) z ≡ false → mag z < 2_147_483_648
+  whole-width t = rw ez (signed-small w (form t))

@@ -1,5 +1,5 @@
--- The octets that a word writes: pairs of hex digits in either case, at most 300 pairs, or `-` for none.
-use mathlib.Core.Path.{_≡_, refl, sym, ap, _∙_}
+-- The octets that a word writes: pairs of hex digits in either case, at most 4,096 pairs, or `-` for none.
+use mathlib.Core.Path.{_≡_, refl, sym, ap, ap₂, _∙_}
 use mathlib.Core.Bool.{Bool, true, false, _&&_}
 use mathlib.Core.List.{List, [], _∷_}
 use Prim.Native.Nat.{ℕ, suc, _+_, _-_, _*_, _/_, _%_, _≤_, _<_}
@@ -7,10 +7,10 @@ use native.Mathlib.Numerals.{add-one}
 use native.Mathlib.Omega.{arith}
 use borrow.Author.Tests.{eq-eqb, ne-eqb, le-leb, lt-leb, lt-ltb, le-ltb, leb-true, eqb-true}
 use lib.Dec.{ltb, leb, eqb}
-use lib.ListN.{length, getD, take, drop, set, length-drop, drop-of-length-le}
+use lib.ListN.{length, getD, take, drop, set, length-drop, length-take, drop-of-length-le}
 use lib.Seq.{drop-cons, sets, sets-eq, take-append-seam}
 use Rattle.codec.specs.Pick.{pick}
-use Rattle.words.specs.Octets.{between, hexDigit, areHex, isOctets, octetOf, octetsOf, countIn, laidIn}
+use Rattle.words.specs.Octets.{between, hexDigit, areHex, isOctets, octetOf, octetsOf, octetsIn, isList, listIn}
 
 -- ---- the ways out of `hex_digit`
 
@@ -83,17 +83,17 @@ module _ (w : List ℕ) (one : length w ≡ 1 → ⊥) where
   unfolding isOctets
   octets-empty e = rw (ne-eqb (length w) 1 one, lt-leb 1 (length w) (omega arith)) refl
 
-  pub octets-long : 1 ≤ length w → 600 < length w → false ≡ isOctets w
+  pub octets-long : 1 ≤ length w → 8_192 < length w → false ≡ isOctets w
   unfolding isOctets
-  octets-long h k = rw (ne-eqb (length w) 1 one, le-leb 1 (length w) h, lt-leb (length w) 600 k) refl
+  octets-long h k = rw (ne-eqb (length w) 1 one, le-leb 1 (length w) h, lt-leb (length w) 8_192 k) refl
 
-  pub octets-odd : 1 ≤ length w → length w ≤ 600 → (length w % 2 ≡ 0 → ⊥) → false ≡ isOctets w
+  pub octets-odd : 1 ≤ length w → length w ≤ 8_192 → (length w % 2 ≡ 0 → ⊥) → false ≡ isOctets w
   unfolding isOctets
-  octets-odd h k e = rw (ne-eqb (length w) 1 one, le-leb 1 (length w) h, le-leb (length w) 600 k, ne-eqb (length w % 2) 0 e) refl
+  octets-odd h k e = rw (ne-eqb (length w) 1 one, le-leb 1 (length w) h, le-leb (length w) 8_192 k, ne-eqb (length w % 2) 0 e) refl
 
-  pub octets-even : 1 ≤ length w → length w ≤ 600 → length w % 2 ≡ 0 → areHex w ≡ isOctets w
+  pub octets-even : 1 ≤ length w → length w ≤ 8_192 → length w % 2 ≡ 0 → areHex w ≡ isOctets w
   unfolding isOctets
-  octets-even h k e = rw (ne-eqb (length w) 1 one, le-leb 1 (length w) h, le-leb (length w) 600 k, eq-eqb (length w % 2) 0 e) refl
+  octets-even h k e = rw (ne-eqb (length w) 1 one, le-leb 1 (length w) h, le-leb (length w) 8_192 k, eq-eqb (length w % 2) 0 e) refl
 
 -- ---- the ways through `lay`
 
@@ -125,49 +125,79 @@ octets-length (a ∷ b ∷ w) = omega (arith, octets-length w)
 
 -- ---- the ways out of `octets`
 
-pub octets-most : (w : List ℕ) → isOctets w ≡ true → length w ≤ 600
+pub octets-most : (w : List ℕ) → isOctets w ≡ true → length w ≤ 8_192
 unfolding isOctets
 octets-most w e = by-one (eqb (length w) 1) refl e
   where
-    by-long : (b : Bool) → leb (length w) 600 ≡ b → (a : Bool) (t : Bool) → a && (b && t) ≡ true → length w ≤ 600
-    by-long true k a t u = leb-true (length w) 600 k
+    by-long : (b : Bool) → leb (length w) 8_192 ≡ b → (a : Bool) (t : Bool) → a && (b && t) ≡ true → length w ≤ 8_192
+    by-long true k a t u = leb-true (length w) 8_192 k
     by-long false k true t u = let z : _≡_ {A = ℕ} 0 1 = cc in absurd (omega arith)
     by-long false k false t u = let z : _≡_ {A = ℕ} 0 1 = cc in absurd (omega arith)
 
     by-one : (b : Bool) → eqb (length w) 1 ≡ b
-        → pick b (eqb (getD w 0 0) 45) (leb 1 (length w) && (leb (length w) 600 && (eqb (length w % 2) 0 && areHex w))) ≡ true → length w ≤ 600
+        → pick b (eqb (getD w 0 0) 45) (leb 1 (length w) && (leb (length w) 8_192 && (eqb (length w % 2) 0 && areHex w))) ≡ true → length w ≤ 8_192
     by-one true k u = omega (arith, eqb-true (length w) 1 k)
-    by-one false k u = by-long (leb (length w) 600) refl (leb 1 (length w)) (eqb (length w % 2) 0 && areHex w) u
+    by-one false k u = by-long (leb (length w) 8_192) refl (leb 1 (length w)) (eqb (length w % 2) 0 && areHex w) u
+
+-- how many they are and what the array comes to hold
+abbrev Lays : List ℕ → List ℕ → ℕ → List ℕ → Type 0
+Lays w out n m = (n ≡ length (octetsIn w)) × (m ≡ sets out 0 (octetsIn w))
 
 module _ (w out : List ℕ) where
-  pub octets-there : isOctets w ≡ true → {m : List ℕ} → m ≡ sets out 0 (octetsOf w) → (length w / 2 ≡ countIn w) × (m ≡ laidIn w out)
-  unfolding countIn laidIn
-  octets-there e em = (rw e (sym (octets-length w)), em ∙ rw e refl)
+  pub octets-there : isOctets w ≡ true → {m : List ℕ} → m ≡ sets out 0 (octetsOf w) → Lays w out (length w / 2) m
+  unfolding octetsIn
+  octets-there e em = rw e (sym (octets-length w), em)
 
-  pub octets-none : isOctets w ≡ false → (301 ≡ countIn w) × (out ≡ laidIn w out)
-  unfolding countIn laidIn
-  octets-none e = (rw e refl, rw e refl)
+  pub octets-none : isOctets w ≡ false → Lays w out 0 out
+  unfolding octetsIn
+  octets-none e = rw e (refl, refl)
 
--- ---- what the answer of `octets` says: a count of at most 300 is that of the octets, which then stand in the array's front
+-- ---- what the answer of `octets` says: so many octets stand in the array's front
 
-pub octets-few : (w : List ℕ) → isOctets w ≡ true → length (octetsOf w) < 301
-octets-few w e = omega (arith, octets-most w e, octets-length w)
-
-pub count-fits : (w : List ℕ) → ltb (countIn w) 301 ≡ isOctets w
-unfolding countIn
-count-fits w = by-form (isOctets w) refl
+pub octets-few : (w : List ℕ) → length (octetsIn w) ≤ 4_096
+unfolding octetsIn
+octets-few w = by-form (isOctets w) refl
   where
-    by-form : (b : Bool) → isOctets w ≡ b → ltb (pick b (length (octetsOf w)) 301) 301 ≡ b
-    by-form true t = lt-ltb (length (octetsOf w)) 301 (octets-few w t)
-    by-form false t = refl
+    by-form : (b : Bool) → isOctets w ≡ b → length (pick b (octetsOf w) []) ≤ 4_096
+    by-form true t = omega (arith, octets-most w t, octets-length w)
+    by-form false t = omega arith
 
-pub octets-front : (w : List ℕ) → isOctets w ≡ true → (out : List ℕ) → length out ≡ 300 → take (countIn w) (laidIn w out) ≡ octetsOf w
-unfolding countIn laidIn
-octets-front w e out k =
-    rw e
-    (ap (take (length (octetsOf w))) (sets-eq (octetsOf w) out 0 (omega (arith, octets-few w e)))
-    ∙ take-append-seam (octetsOf w) (drop (0 + length (octetsOf w)) out))
+module _ (w b : List ℕ) (eb : 4_096 ≡ length b) {n : ℕ} {m : List ℕ} (x : Lays w b n m) where
+  pub octets-taken : take n m ≡ octetsIn w
+  octets-taken =
+      ap₂ take (x .0) (x .1 ∙ sets-eq (octetsIn w) b 0 (omega (arith, octets-few w)))
+      ∙ take-append-seam (octetsIn w) (drop (0 + length (octetsIn w)) b)
 
-pub count-length : (w : List ℕ) → isOctets w ≡ true → countIn w ≡ length (octetsOf w)
-unfolding countIn
-count-length w e = rw e refl
+  pub octets-counted : n ≡ length (take n m)
+  octets-counted = x .0 ∙ ap length (sym octets-taken)
+
+  pub octets-held : n ≤ length m
+  octets-held = omega (arith, octets-counted, length-take n m)
+
+-- ---- the ways out of `is_list` and `list`
+
+module _ (w : List ℕ) where
+  pub list-other : (length w ≡ 2 → ⊥) → false ≡ isList w
+  unfolding isList
+  list-other e = rw (ne-eqb (length w) 2 e) refl
+
+  pub list-form : length w ≡ 2 → areHex w ≡ isList w
+  unfolding isList
+  list-form e = rw (eq-eqb (length w) 2 e) refl
+
+  -- a list has its two digits
+  pub list-pair : isList w ≡ true → length w ≡ 2
+  unfolding isList
+  list-pair t = eqb-true (length w) 2 (both (eqb (length w) 2) (areHex w) t)
+    where
+      both : (a b : Bool) → a && b ≡ true → a ≡ true
+      both true b e = refl
+      both false b e = e
+
+  pub list-value : isList w ≡ true → octetOf (getD w 0 0) (getD w 1 0) ≡ listIn w
+  unfolding listIn
+  list-value t = rw t refl
+
+  pub list-none : isList w ≡ false → 0 ≡ listIn w
+  unfolding listIn
+  list-none t = rw t refl

@@ -10,7 +10,7 @@ use borrow.Author.Tests.{ne-eqb, le-leb, lt-ltb, le-ltb, ltb-true, ltb-false, le
 use lib.Dec.{T, ltb, leb, eqb, ltb→lt}
 use lib.IntN.{ℤ, pos, negsuc}
 use lib.ListN.{length, getD, take, drop}
-use lib.Seq.{take-append-seam, drop-append-seam, take-length, drop-length}
+use lib.Seq.{take-append-seam, take-length}
 use lib.Signed.{mag}
 use Rattle.codec.specs.Pick.{pick}
 use lib.Pow.{areBytes}
@@ -19,7 +19,7 @@ use Rattle.scope.specs.Sheet.{digitsOf, decimal, signedDecimal}
 use Rattle.text.specs.Decimals.{valueFrom, valueOf, isDigit}
 use Rattle.text.specs.Laws.Decimals.{areDigits, value-decimal, all-digits, no-zero-in-front, some-digit, decimal-zero}
 use Rattle.text.specs.Hex.{capital, pairText, pairsText, hexText}
-use Rattle.words.specs.Lines.{wordLength, wordOf, afterOf}
+use Rattle.words.specs.Lines.{wordLength, wordOf}
 use Rattle.words.specs.Numbers.{leads, goesOn, isNumber, numberIn, isSigned, signedValue}
 use Rattle.words.specs.Laws.Numbers.{number-value, digit-least}
 use Rattle.words.specs.Octets.{hexDigit, areHex, isOctets, octetOf, octetsOf}
@@ -225,7 +225,7 @@ unfolding hexText octetsOf
 octets-taken [] t = refl
 octets-taken (o ∷ os) t = pairs-taken (o ∷ os) t
 
--- and it is such a word, if they are at most 300
+-- and it is such a word, if they are at most 4,096
 pairs-hex : (os : List ℕ) → T (areBytes os) → areHex (pairsText os) ≡ true
 unfolding areHex pairsText pairText
 pairs-hex [] t = refl
@@ -241,7 +241,7 @@ unfolding pairsText pairText
 pairs-length [] = refl
 pairs-length (o ∷ os) = omega (arith, pairs-length os)
 
-pub octets-are : (os : List ℕ) → T (areBytes os) → length os ≤ 300 → isOctets (hexText os) ≡ true
+pub octets-are : (os : List ℕ) → T (areBytes os) → length os ≤ 4_096 → isOctets (hexText os) ≡ true
 unfolding hexText
 octets-are [] t h = sym (octets-sign (45 ∷ []) refl)
 octets-are (o ∷ os) t h =
@@ -262,14 +262,14 @@ word-length (o ∷ w) s n =
     rw (not-true (eqb o 32) (p .0)) (omega (arith, word-length w s (p .1)))
 
 -- a word with a space behind it, and the last word of a line
-pub word-before : (w s : List ℕ) → noSpace w ≡ true → (wordOf (w ++ (32 ∷ s)) ≡ w) × (afterOf (w ++ (32 ∷ s)) ≡ 32 ∷ s)
-unfolding wordOf afterOf wordLength
+pub word-before : (w s : List ℕ) → noSpace w ≡ true → wordOf (w ++ (32 ∷ s)) ≡ w
+unfolding wordOf wordLength
 word-before w s n =
     let e : wordLength (w ++ (32 ∷ s)) ≡ length w = word-length w (32 ∷ s) n ∙ omega arith in
-    (ap (λ k. take k (w ++ (32 ∷ s))) e ∙ take-append-seam w (32 ∷ s), ap (λ k. drop k (w ++ (32 ∷ s))) e ∙ drop-append-seam w (32 ∷ s))
+    ap (λ k. take k (w ++ (32 ∷ s))) e ∙ take-append-seam w (32 ∷ s)
 
-pub word-last : (w : List ℕ) → noSpace w ≡ true → (wordOf w ≡ w) × (afterOf w ≡ [])
-unfolding wordOf afterOf wordLength
+pub word-last : (w : List ℕ) → noSpace w ≡ true → wordOf w ≡ w
+unfolding wordOf wordLength
 word-last w n =
     let e : wordLength w ≡ length w = ap wordLength (sym (append-nil w)) ∙ word-length w [] n ∙ omega arith in
-    (ap (λ k. take k w) e ∙ take-length w, ap (λ k. drop k w) e ∙ drop-length w)
+    ap (λ k. take k w) e ∙ take-length w

@@ -6,9 +6,9 @@ use borrow.Author.Needs.{needs}
 use denote.Ref.{now}
 use lib.Dec.{T}
 use mir.Facts.{fits-of-lt}
-use Rattle.tables.specs.Lines.{firstAt, countAt}
-use Rattle.tables.specs.Shapes.{inTurn}
-use Rattle.tables.specs.Laws.Runs.{turn-first, turn-rest}
+use Rattle.lengths.specs.Lines.{firstAt, countAt}
+use Rattle.shapes.specs.Shapes.{inTurn}
+use Rattle.shapes.specs.Laws.Runs.{turn-first, turn-rest}
 use Rattle.writer.specs.Laws.Chains.{goes, chain-last, chain-on}
 use borrow.Fn.Kinds.{In}
 use borrow.Fn.PlainCycle.{Measures, is, falls, and}

@@ -5,10 +5,10 @@ use native.Mathlib.Omega.{arith}
 use denote.Ref.{now}
 use lib.Dec.{T}
 use mir.Facts.{fits-of-lt}
-use Rattle.tables.specs.Lines.{firstAt, countAt}
-use Rattle.tables.specs.Shapes.{inTurn}
+use Rattle.lengths.specs.Lines.{firstAt, countAt}
+use Rattle.shapes.specs.Shapes.{inTurn}
 use Rattle.layout.specs.Laws.Slots.{holds-take, holds-drop}
-use Rattle.tables.specs.Laws.Runs.{turn-first, turn-rest}
+use Rattle.shapes.specs.Laws.Runs.{turn-first, turn-rest}
 use Rattle.writer.specs.Laws.Chains.{subs-end, first-under, subs-on}
 use borrow.Fn.Kinds.{In}
 use borrow.Fn.PlainCycle.{Measures, is, falls, and}

@@ -4,7 +4,7 @@ use native.Mathlib.Omega.{arith}
 use borrow.Author.Needs.{needs}
 use denote.Ref.{now}
 use mir.Facts.{fits-of-lt}
-use Rattle.tables.specs.Laws.Shapes.{shaped-well}
+use Rattle.shapes.specs.Laws.Shapes.{shaped-well}
 use Rattle.writer.specs.Laws.Chains.{chain-turn, item-single, item-chained}
 use Rattle.writer.proofs.item.Statement.{statement}
 use Rattle.writer.proofs.item.Tie as tie

@@ -7,8 +7,8 @@ use denote.Ref.{now}
 use mir.Syntax.{w32}
 use mir.Facts.{toZ-ofZ, fits-of-lt}
 use Rattle.codec.specs.Item.{isOne}
-use Rattle.tables.specs.Laws.Lines.{few-flags}
-use Rattle.tables.specs.Laws.Formats.{format-flag}
+use Rattle.lengths.specs.Laws.Lines.{few-flags}
+use Rattle.lengths.specs.Laws.Formats.{format-flag}
 use Rattle.layout.specs.Record.{numberAt}
 use Rattle.writer.specs.Laws.Chains.{sub-there, sub-absent}
 use Rattle.writer.proofs.subfield.Statement.{statement}

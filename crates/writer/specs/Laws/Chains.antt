@@ -16,11 +16,11 @@ use Rattle.codec.specs.Laws.Tests.{and-l, and-r}
 use Rattle.codec.specs.Laws.Item.{chain-length}
 use Rattle.layout.specs.Record.{numberAt}
 use Rattle.layout.specs.Laws.Slots.{Holds, holds-take, holds-drop}
-use Rattle.tables.specs.declared.Shape.{Shape}
-use Rattle.tables.specs.Lines.{lineAt, firstAt, countAt, itemAt}
-use Rattle.tables.specs.Shapes.{linesFrom, flagsUnder, itemOf, inTurn, shapeAt}
-use Rattle.tables.specs.Laws.Runs.{lines-on}
-use Rattle.tables.specs.Laws.Shapes.{Shaped, shaped-well, shape-single, shape-chained}
+use Rattle.lengths.specs.Lines.{lineAt, firstAt, countAt}
+use Rattle.shapes.specs.declared.Shape.{Shape}
+use Rattle.shapes.specs.Shapes.{itemAt, linesFrom, flagsUnder, itemOf, inTurn, shapeAt}
+use Rattle.shapes.specs.Laws.Shapes.{Shaped, shaped-well, shape-single, shape-chained}
+use Rattle.shapes.specs.Laws.Runs.{lines-on}
 use Rattle.writer.specs.Laying.{Lays}
 use Rattle.writer.specs.Laws.Laying.{lays-via, lays-guard, lays-there, lays-none, lays-absent, lays-beside}
 use Rattle.writer.specs.Chains.{goesOn}

@@ -16,8 +16,8 @@ use Rattle.codec.specs.Laws.Tests.{and-in, and-l, and-r}
 use Rattle.codec.specs.Laws.Radix.{join-lt}
 use Rattle.layout.specs.Record.{numberAt}
 use Rattle.layout.specs.Laws.Slots.{Holds, holds-drop}
-use Rattle.tables.specs.Lines.{piecesFrom}
-use Rattle.tables.specs.Laws.Formats.{more-spare, more-num}
+use Rattle.lengths.specs.Lines.{piecesFrom}
+use Rattle.lengths.specs.Laws.Formats.{more-spare, more-num}
 use Rattle.writer.specs.Digits.{lowBits, digitsAt, gathered}
 
 pub low-lt : (w : ℕ) (z : ℤ) → lowBits w z < 2 ^ w

@@ -21,9 +21,8 @@ use Rattle.layout.specs.Papers.{LONGEST, known, paperOf, itemsOf}
 use Rattle.layout.specs.Record.{regroup, unflatten, fitsPaper, contents}
 use Rattle.layout.specs.Laws.Papers.{few-octets}
 use Rattle.scope.specs.Writing.{writable, written}
-use Rattle.tables.specs.Lines.{spotAt, spotOf}
-use Rattle.tables.specs.Shapes.{itemsFrom, heldFrom}
-use Rattle.tables.specs.Laws.Spots.{Spots, spots-right}
+use Rattle.shapes.specs.Spots.{spotAt, spotOf, itemsFrom, heldFrom}
+use Rattle.shapes.specs.Laws.Spots.{Spots, spots-right}
 use Rattle.writer.specs.Laying.{Lays}
 use Rattle.codec.specs.Laws.Sets.{Put}
 use Rattle.writer.specs.Frames.{made, Laid}

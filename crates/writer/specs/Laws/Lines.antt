@@ -18,10 +18,10 @@ use Rattle.codec.specs.Laws.Tests.{and-l, and-r}
 use Rattle.codec.specs.Laws.Radix.{total-eights}
 use Rattle.codec.specs.Laws.Line.{line-fx}
 use Rattle.codec.specs.Laws.Longest.{line-size}
-use Rattle.tables.specs.declared.Format.{Format}
-use Rattle.tables.specs.Lines.{placedAt, lineAt, firstAt, piecesFrom, formatOf}
-use Rattle.tables.specs.Laws.Lines.{line-filled}
-use Rattle.tables.specs.Laws.Formats.{format-octets, format-pieces, format-fx, format-first}
+use Rattle.lengths.specs.declared.Format.{Format}
+use Rattle.lengths.specs.Lines.{placedAt, lineAt, firstAt, piecesFrom, formatOf}
+use Rattle.lengths.specs.Laws.Lines.{line-filled}
+use Rattle.lengths.specs.Laws.Formats.{format-octets, format-pieces, format-fx, format-first}
 use Rattle.layout.specs.Laws.Slots.{Holds}
 use Rattle.writer.specs.Digits.{gathered}
 use Rattle.writer.specs.Laws.Digits.{gathered-lt, gathered-are}

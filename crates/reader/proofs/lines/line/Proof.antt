@@ -8,7 +8,7 @@ use denote.Ref.{now}
 use lib.Pow.{pow-pos, pow-mono}
 use mir.Facts.{fits-of-lt}
 use Rattle.leaves.specs.{octet-is}
-use Rattle.tables.specs.Laws.Formats.{format-few, format-runs, format-narrow, format-fx-few, format-first}
+use Rattle.lengths.specs.Laws.Formats.{format-few, format-runs, format-narrow, format-fx-few, format-first}
 use Rattle.reader.specs.Laws.Lines.{row-room, line-5, line-6, line-8, line-got}
 use Rattle.reader.proofs.lines.line.Statement.{statement}
 use Rattle.reader.proofs.lines.line.Tie as tie

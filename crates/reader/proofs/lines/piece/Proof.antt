@@ -9,7 +9,7 @@ use lib.Pow.{pow-pos}
 use mir.Syntax.{w32}
 use mir.Facts.{toZ-ofZ}
 use Rattle.codec.specs.Line.{toNum}
-use Rattle.tables.specs.Lines.{kindOf}
+use Rattle.lengths.specs.Lines.{kindOf}
 use Rattle.reader.specs.Laws.Numbers.{took-none, took-one, took-two}
 use Rattle.reader.proofs.lines.piece.Statement.{statement}
 use Rattle.reader.proofs.lines.piece.Tie as tie

@@ -6,8 +6,8 @@ use denote.Ref.{now}
 use mir.Syntax.{w32}
 use mir.Facts.{toZ-ofZ, fits-of-lt}
 use Rattle.codec.specs.Item.{isOne}
-use Rattle.tables.specs.Laws.Lines.{few-flags}
-use Rattle.tables.specs.Laws.Formats.{format-flag}
+use Rattle.lengths.specs.Laws.Lines.{few-flags}
+use Rattle.lengths.specs.Laws.Formats.{format-flag}
 use Rattle.sheet.specs.Laws.Lines.{there-sub, there-part}
 use Rattle.sheet.proofs.items.is_there.Statement.{statement}
 use Rattle.sheet.proofs.items.is_there.Tie as tie

@@ -2,7 +2,7 @@
 use native.Mathlib.Omega.{arith}
 use denote.Ref.{now}
 use mir.Facts.{fits-of-lt}
-use Rattle.tables.specs.Laws.Shapes.{shaped-well}
+use Rattle.shapes.specs.Laws.Shapes.{shaped-well}
 use Rattle.sheet.specs.Laws.Lines.{item-single, item-chained}
 use Rattle.sheet.proofs.items.item.Statement.{statement}
 use Rattle.sheet.proofs.items.item.Tie as tie

@@ -4,8 +4,8 @@ use Prim.Native.Nat.{_+_}
 use native.Mathlib.Omega.{arith}
 use denote.Ref.{now}
 use mir.Facts.{fits-of-lt}
-use Rattle.tables.specs.Laws.Lines.{few-line-slots}
-use Rattle.tables.specs.Laws.Formats.{format-first}
+use Rattle.lengths.specs.Laws.Lines.{few-line-slots}
+use Rattle.lengths.specs.Laws.Formats.{format-first}
 use Rattle.sheet.specs.Laws.Lines.{line-there, line-absent}
 use Rattle.sheet.proofs.items.line.Statement.{statement}
 use Rattle.sheet.proofs.items.line.Tie as tie

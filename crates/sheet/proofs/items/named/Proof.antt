@@ -9,7 +9,8 @@ use Rattle.layout.specs.Cat021.{cat021}
 use Rattle.layout.specs.Cat007.{cat007}
 use Rattle.layout.specs.Names.{text, names048, names021, names007}
 use Rattle.scope.specs.Sheet.{chainText}
-use Rattle.tables.specs.Lines.{items, itemAt}
+use Rattle.lengths.specs.Lines.{items}
+use Rattle.shapes.specs.Shapes.{itemAt}
 use Rattle.sheet.specs.Laws.Keys.{groups}
 use Rattle.sheet.specs.Items.{named, namedAt}
 use Rattle.sheet.specs.Laws.Items.{arm-plain, arm-past}

@@ -6,8 +6,8 @@ use borrow.Author.Needs.{needs}
 use denote.Ref.{now}
 use lib.Pow.{pow-pos, pow-mono}
 use mir.Facts.{fits-of-lt}
-use Rattle.tables.specs.Laws.Lines.{few-line-slots}
-use Rattle.tables.specs.Laws.Formats.{format-few, format-runs, format-fx-few, format-first}
+use Rattle.lengths.specs.Laws.Lines.{few-line-slots}
+use Rattle.lengths.specs.Laws.Formats.{format-few, format-runs, format-fx-few, format-first}
 use Rattle.writer.specs.Laws.Lines.{row-bits, line-full, line-number, line-laid}
 use Rattle.writer.proofs.lines.line.Statement.{statement}
 use Rattle.writer.proofs.lines.line.Tie as tie

@@ -1,0 +1,28 @@
+"""The programs that bench/run built for x86-64 and how they are started: natively there, else by the kit's emulator."""
+import pathlib
+import platform
+import subprocess
+
+WORK = pathlib.Path(__file__).resolve().parent.parent / "target" / "bench"
+GUIDE = subprocess.run(["rt", "doc"], check=True, capture_output=True, text=True).stdout.strip()
+KIT = pathlib.Path(GUIDE).parent.parent
+LIB = KIT / "toolchain" / "lib"
+NATIVE = platform.machine() == "x86_64"
+EMULATOR = KIT / "on" / platform.machine() / "toolchain" / "bin" / "qemu-x86_64"
+OPERATIONS = ("read", "write", "view", "edit", "sheet")
+SIDES = ("plain", "ours")
+
+
+def driver(side, operation, corpus, *more):
+    """A side's program on the file of a corpus, by the kit's own loader and C library."""
+    return [LIB / "ld-linux-x86-64.so.2", "--library-path", LIB, WORK / side, operation, corpus, *map(str, more)]
+
+
+def started(command, *options):
+    """A command for x86-64 as this machine runs it; the options are the emulator's."""
+    return list(map(str, command if NATIVE else [EMULATOR, *options, *command]))
+
+
+def told(command):
+    """The words that it prints."""
+    return subprocess.run(started(command), check=True, capture_output=True, text=True).stdout.split()

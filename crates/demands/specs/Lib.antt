@@ -1,0 +1,9 @@
+-- What a reader has to believe, and that the program which scope defines is as demanded.
+pub mod Terms
+pub mod Demands
+pub mod Defined
+pub mod Kept
+pub mod Angles
+pub mod RoundTrips
+pub mod Edited
+pub mod Longest

@@ -1,0 +1,4 @@
+-- What holds of every line, and what its format tells of it.
+pub mod Lines
+pub mod Formats
+pub mod Mask
