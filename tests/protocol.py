@@ -2,8 +2,8 @@
 """Holds docs/PROTOCOL.md and README.md to what is so: their sessions and tables against tests/refdesk.py, tests/papers.py and include/refdesk.h, and
 their commands against the programs.
 
-A block of sh or python with a block of text behind it is run from the repository's folder, and has to print that text. Of the blocks that send lines
-to refdesk, and of the rows of a table 'line | answer', the answers have to be those of tests/refdesk.py, too.
+A block of sh or python is run from the repository's folder, and has to print the block of text behind it. Of the blocks that send lines to refdesk,
+and of the rows of a table 'line | answer', the answers have to be those of tests/refdesk.py, too.
 """
 import re
 import subprocess
@@ -23,8 +23,10 @@ WORDS = {"PARTS": 8, "NUMBERS": 77}  # names that stand for several words
 
 
 def examples(page):
-    """(language, block, text behind it) of each block that has one."""
-    return re.findall(r"^```(sh|python)\n(.*?)^```\n\n```\n(.*?)^```\n", page, re.M | re.S)
+    """(language, block, text behind it) of each block of sh or python; every one has such a text."""
+    found = re.findall(r"^```(sh|python)\n(.*?)^```\n\n```\n(.*?)^```\n", page, re.M | re.S)
+    same("blocks with a text behind them", len(found), len(re.findall(r"^```\w", page, re.M)))
+    return found
 
 
 def table(page, head):
