@@ -23,9 +23,9 @@ MOST = 1_100
 # the crates in the order of the layers, and what each of them promises
 PROMISES = [
     ("codec", "the definitions of the format: laws of codecs, chains, frames and edits"),
-    ("leaves", "`wide`, `wide64`, `octet`, `octet64`, `less`, `less64`"),
+    ("leaves", "`wide`, `wide64`, `octet`, `octet64`, `less`, `less64`, `front`"),
     ("layout", "the papers as data; `is_known`, `items_of`, `longest_of`, `is_item`, `present`, `with_item`, "
-               "`without_item`, `number_at`, `is_one`"),
+               "`without_item`, `number_at`, `is_one`, `which_number`"),
     ("scope", "01's operations as definitions: the edge octets and sheets computed from them"),
     ("demands", "the three demands, and that the program which `scope` defines meets them"),
     ("lengths", "`format_of`"),
@@ -35,17 +35,18 @@ PROMISES = [
     ("angle", "`udeg`"),
     ("writer", "`write`, `deliver`"),
     ("desk", "`remove`, `replace`"),
-    ("text", "`octet`, `word`, `decimal`, `signed`, `octets`, `line_end`, `pair`, `signed_pair`; the longest sheet"),
-    ("sheet", "`sheet`"),
-    ("words", "the words of a line, and the number, octets or list that a word writes"),
-    ("protocol", "`parse`: the request that a line is, or the number of its first wrong word"),
-    ("replies", "the text of each answer"),
+    ("text", "`octet`, `word`, `decimal`, `signed`, `octets`, `line_end`, `pair`, `signed_pair`"),
+    ("longest", "the longest sheet"),
+    ("sheet", "`sheet`, `listed`"),
+    ("words", "`word`, `number`, `signed`, `small`, `room`, `whole`, `is_octets`, `octets`, `is_list`, `list`"),
+    ("protocol", "`parse`, `word_at`, `record_at`"),
+    ("replies", "`bad_request`, `refusal`, `left`, `view_text`, `choice_text`, `reading_text`, `sheet_text`"),
     ("requests", "`answer`"),
+    ("lines", "`join`"),
     ("exports", "`ref_read`, `ref_write`, `ref_view`, `ref_choose`, `ref_remove`, `ref_replace`, `ref_sheet`"),
     ("promises", "the code computes the program of the demands, and each promise allows one result"),
     ("listing", "the private function behind `main`: what is written is the sheet of what was read"),
-    ("lines", "`join`: the lines of the input, from what each read brings"),
-    ("refdesk", "the private functions behind `main`: what is held between two reads is the front of a line"),
+    ("refdesk", "the private functions behind `main`: between two reads what is left of the input's last line is held"),
 ]
 
 # 01, 'How firm each promise is': "These must be unable to meet it"

@@ -6,7 +6,7 @@ ghost use mathlib.Core.List.{map};
 ghost use lib.IntN.{pos};
 ghost use lib.ListN.{length};
 ghost use Rattle.codec.specs.Change.{remove, put};
-ghost use Rattle.layout.specs.Answer.{placeOf, lengthOf, viewPlace, viewLength, whichNumber};
+ghost use Rattle.layout.specs.Answer.{placeOf, lengthOf, viewPlace, viewLength};
 ghost use Rattle.scope.specs.Reading.{readOf};
 ghost use Rattle.scope.specs.Outputs.{withRoom, Leaves};
 ghost use Rattle.scope.specs.Sheet.{sheetOf};
@@ -18,7 +18,6 @@ use layout::Answer;
 use layout::Record;
 use layout::SLOTS;
 use layout::View;
-use layout::Which;
 
 // The places of a record's array.
 const PLACES: usize = 10 + SLOTS;
@@ -51,16 +50,6 @@ fn side_word(which: u8, v: View) -> u64
     match v {
         View::Shown(from, n) => word(0, which, from, n),
         View::Hidden(e, p) => word(e, which, p, 0),
-    }
-}
-
-fn which_number(w: Which) -> u8
-    ensures { λ r. ⌜ r ≡ whichNumber w ⌝ }
-{
-    match w {
-        Which::Neither => 0,
-        Which::Base => 1,
-        Which::Correction => 2,
     }
 }
 
@@ -227,7 +216,7 @@ pub extern "C" fn ref_choose(cat: u8, base: &[u8], correction: &[u8], item: u8) 
     let c = views::choose_answer(cat, base, correction, item);
     let w = c.which;
     let v = c.view;
-    side_word(which_number(w), v)
+    side_word(layout::which_number(w), v)
 }
 
 // A field without an item, into the front of the output.

@@ -1,7 +1,6 @@
 // The answers of the co-process in words: what each operation answered is typed into a buffer, `ok` and what was asked for, or `refused`, number and place.
 // Promises: every octet of the text. Stands on text.
 ghost use mathlib.Core.Path.{_≡_};
-ghost use Rattle.layout.specs.Answer.{whichNumber};
 ghost use Rattle.layout.specs.Names.{text};
 ghost use Rattle.text.specs.Typing.{Types};
 ghost use Rattle.replies.specs.Texts.{next, nextSigned, nextOctets, badRequest, refusalText, leftText, shownText, viewText, choiceText, wordsText, recordText, readingText, inLine, lineOctet, sheetText};
@@ -10,7 +9,6 @@ use layout::Choice;
 use layout::Reading;
 use layout::Record;
 use layout::View;
-use layout::Which;
 
 // ---- words of an answer, each behind a space
 
@@ -91,21 +89,11 @@ pub fn view_text(view: View, part: &[u8], buf: &mut [u8; 4096]) -> usize
     }
 }
 
-fn which_number(which: Which) -> u64
-    ensures { λ r. ⌜ r ≡ whichNumber which ⌝ }
-{
-    match which {
-        Which::Neither => 0,
-        Which::Base => 1,
-        Which::Correction => 2,
-    }
-}
-
 pub fn choice_text(choice: Choice, part: &[u8], buf: &mut [u8; 4096]) -> usize
     ensures { λ r. ⌜ Types (choiceText choice (now (part .entry))) (now (buf .entry)) 0 (now (buf .exit)) r ⌝ }
 {
     let which = choice.which;
-    let number = which_number(which);
+    let number = layout::which_number(which) as u64;
     let view = choice.view;
     match view {
         View::Shown(start, n) => {

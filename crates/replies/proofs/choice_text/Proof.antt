@@ -28,6 +28,7 @@ choice-text-spec =
     (tie.spec
     (λ c κs. tt)
     (λ c. search needs)
+    (λ c. search needs)
     (λ c κs. tt)
     (λ c κs. tt)
     (λ c κs. tt)

@@ -1,9 +1,9 @@
--- `exports::which_number` meets its contract. Assumes nothing.
+-- `layout::which_number` meets its contract. Assumes nothing.
 use mathlib.Core.Path.{refl}
 use borrow.Author.Needs.{needs}
 use Rattle.layout.specs.Answer.{whichNumber}
-use Rattle.exports.proofs.which_number.Statement.{statement}
-use Rattle.exports.proofs.which_number.Tie as tie
+use Rattle.layout.proofs.which_number.Statement.{statement}
+use Rattle.layout.proofs.which_number.Tie as tie
 
 returns : tie.Need-returns
 unfolding whichNumber
