@@ -31,9 +31,9 @@ use Rattle.scope.specs.Writing.{writeOf, Wrote}
 use Rattle.scope.specs.Outputs.{answerOf, after}
 use Rattle.scope.specs.Laws.Reading.{read-found, read-front}
 use Rattle.demands.specs.RoundTrips.{written-reads, read-writes}
-use Rattle.exports.specs.Packed.{answerWord, Hands}
-use Rattle.exports.specs.Arrays.{PLACES, arrayOf, fillAnswer, filledBy, ofArray, writeArray, Fills}
-use Rattle.exports.specs.Laws.Exact.{Sized, array-writes, array-written}
+use Rattle.interface.specs.Packed.{answerWord, Hands}
+use Rattle.interface.specs.Arrays.{PLACES, arrayOf, fillAnswer, filledBy, ofArray, writeArray, Fills}
+use Rattle.interface.specs.Laws.Exact.{Sized, array-writes, array-written}
 
 -- ---- the parts of an item are few
 

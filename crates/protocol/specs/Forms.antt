@@ -8,7 +8,7 @@ use Rattle.codec.specs.Pick.{pick}
 use Rattle.layout.specs.Names.{text}
 use Rattle.layout.specs.Record.{SLOTS}
 use Rattle.words.specs.Numbers.{isNumber, isSigned}
-use Rattle.words.specs.Octets.{isOctets, isList}
+use Rattle.hex.specs.Octets.{isOctets, isList}
 use Rattle.protocol.specs.Line.{wordsOf, nth, same, placesFrom}
 use Rattle.protocol.specs.declared.Judged.{Judged}
 use Rattle.protocol.specs.declared.Judged.the-variants.{Asks, Wrong}

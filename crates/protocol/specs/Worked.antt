@@ -6,7 +6,7 @@ use Rattle.layout.specs.Names.{text}
 use Rattle.text.specs.Decimals.{valueFrom, valueOf, isDigit}
 use Rattle.text.specs.Laws.Decimals.{areDigits}
 use Rattle.words.specs.Numbers.{leads, goesOn, isNumber, isSigned}
-use Rattle.words.specs.Octets.{hexDigit, areHex, isOctets, isList}
+use Rattle.hex.specs.Octets.{hexDigit, areHex, isOctets, isList}
 use Rattle.protocol.specs.Line.{glued, wordsOf, same}
 use Rattle.protocol.specs.Forms.{fits, forms, firstWrong, judgedAs, judgedBy, parseOf}
 use Rattle.protocol.specs.declared.Judged.{Judged}

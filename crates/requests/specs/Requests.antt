@@ -16,7 +16,7 @@ use Rattle.scope.specs.Sheet.{sheetOf}
 use Rattle.scope.specs.Views.{viewOf, partOf, chooseOf, chosenOf}
 use Rattle.scope.specs.Desk.{editOf}
 use Rattle.words.specs.Numbers.{valueIn}
-use Rattle.words.specs.Octets.{octetsIn, listIn}
+use Rattle.hex.specs.Octets.{octetsIn, listIn}
 use Rattle.protocol.specs.Line.{wordsOf, nth}
 use Rattle.protocol.specs.Forms.{parseOf}
 use Rattle.protocol.specs.Record.{recordIn}

@@ -25,7 +25,7 @@ use Rattle.text.specs.Decimals.{valueFrom, valueOf, isDigit}
 use Rattle.text.specs.Laws.Decimals.{areDigits}
 use Rattle.text.specs.Hex.{capital, pairText, pairsText, hexText}
 use Rattle.words.specs.Numbers.{leads, goesOn, isNumber, isSigned, valueIn}
-use Rattle.words.specs.Octets.{hexDigit, areHex, isOctets, octetOf, octetsOf, octetsIn, isList, listIn}
+use Rattle.hex.specs.Octets.{hexDigit, areHex, isOctets, octetOf, octetsOf, octetsIn, isList, listIn}
 use Rattle.protocol.specs.Line.{glued, wordsOf, same}
 use Rattle.protocol.specs.Forms.{fits, forms, firstWrong, judgedAs, judgedBy, parseOf}
 use Rattle.replies.specs.Texts.{next, nextSigned, nextOctets, badRequest, refusalText, outputText, shownText, viewText, choiceIn, choiceText, wordsText, recordText, readIn, readingText, inLine, lineOctet, sheetText}

@@ -114,7 +114,7 @@ fn read(line: &[u8], starts: &[usize; 10], buf: &mut [u8; 4096]) -> usize
 {
     let mut field = blank();
     let cat = words::small(word(line, starts, 1));
-    let n = words::octets(word(line, starts, 2), &mut field);
+    let n = hex::octets(word(line, starts, 2), &mut field);
     let reading = reader::read(cat, &field[..n]);
     replies::reading_text(reading, &mut *buf)
 }
@@ -134,7 +134,7 @@ fn sheet(line: &[u8], starts: &[usize; 10], buf: &mut [u8; 4096]) -> usize
 {
     let mut field = blank();
     let cat = words::small(word(line, starts, 1));
-    let n = words::octets(word(line, starts, 2), &mut field);
+    let n = hex::octets(word(line, starts, 2), &mut field);
     listed(cat, &field[..n], &mut *buf)
 }
 
@@ -143,7 +143,7 @@ fn view(line: &[u8], starts: &[usize; 10], buf: &mut [u8; 4096]) -> usize
 {
     let mut field = blank();
     let cat = words::small(word(line, starts, 1));
-    let n = words::octets(word(line, starts, 2), &mut field);
+    let n = hex::octets(word(line, starts, 2), &mut field);
     let item = words::small(word(line, starts, 3));
     viewed(cat, &field[..n], item, &mut *buf)
 }
@@ -154,8 +154,8 @@ fn choose(line: &[u8], starts: &[usize; 10], buf: &mut [u8; 4096]) -> usize
     let mut base = blank();
     let mut correction = blank();
     let cat = words::small(word(line, starts, 1));
-    let n = words::octets(word(line, starts, 2), &mut base);
-    let m = words::octets(word(line, starts, 3), &mut correction);
+    let n = hex::octets(word(line, starts, 2), &mut base);
+    let m = hex::octets(word(line, starts, 3), &mut correction);
     let item = words::small(word(line, starts, 4));
     chosen(cat, &base[..n], &correction[..m], item, &mut *buf)
 }
@@ -166,8 +166,8 @@ fn remove(line: &[u8], starts: &[usize; 10], buf: &mut [u8; 4096]) -> usize
     let mut field = blank();
     let mut out = output();
     let cat = words::small(word(line, starts, 1));
-    let n = words::octets(word(line, starts, 2), &mut field);
-    let list = words::list(word(line, starts, 3));
+    let n = hex::octets(word(line, starts, 2), &mut field);
+    let list = hex::list(word(line, starts, 3));
     let item = words::small(word(line, starts, 4));
     let room = words::room(word(line, starts, 5));
     removed(cat, &field[..n], list, item, &mut out[..room], &mut *buf)
@@ -180,10 +180,10 @@ fn replace(line: &[u8], starts: &[usize; 10], buf: &mut [u8; 4096]) -> usize
     let mut new = blank();
     let mut out = output();
     let cat = words::small(word(line, starts, 1));
-    let n = words::octets(word(line, starts, 2), &mut field);
-    let list = words::list(word(line, starts, 3));
+    let n = hex::octets(word(line, starts, 2), &mut field);
+    let list = hex::list(word(line, starts, 3));
     let item = words::small(word(line, starts, 4));
-    let m = words::octets(word(line, starts, 5), &mut new);
+    let m = hex::octets(word(line, starts, 5), &mut new);
     let room = words::room(word(line, starts, 6));
     replaced(
         cat,

@@ -1,5 +1,4 @@
 -- What follows from the definitions, for the proofs of the functions.
 pub mod Lines
 pub mod Numbers
-pub mod Octets
 pub mod Written

@@ -1,6 +1,6 @@
 -- `exports::answer_word` meets its contract: one law for each case. Assumes nothing.
 use borrow.Author.Needs.{needs}
-use Rattle.exports.specs.Laws.Packed.{accepted-fits, accepted-word, refused-fits, refused-word}
+use Rattle.interface.specs.Laws.Packed.{accepted-fits, accepted-word, refused-fits, refused-word}
 use Rattle.exports.proofs.answer_word.Statement.{statement}
 use Rattle.exports.proofs.answer_word.Tie as tie
 

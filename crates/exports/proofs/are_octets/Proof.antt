@@ -8,8 +8,8 @@ use denote.Ref.{now}
 use lib.IntN.{pos}
 use lib.ListN.{length, drop, getD}
 use mir.Facts.{toZ-ofZ}
-use Rattle.exports.specs.Arrays.{isOctet, areOctets}
-use Rattle.exports.specs.Laws.Octets.{octets-more, octets-not, octets-all}
+use Rattle.interface.specs.Arrays.{isOctet, areOctets}
+use Rattle.interface.specs.Laws.Octets.{octets-more, octets-not, octets-all}
 use Rattle.exports.proofs.are_octets.Statement.{statement}
 use Rattle.exports.proofs.are_octets.Tie as tie
 

@@ -7,7 +7,7 @@ use denote.Ref.{now}
 use lib.IntN.{pos}
 use lib.ListN.{length, length-set}
 use mir.Facts.{toZ-ofZ}
-use Rattle.exports.specs.Laws.Copies.{copied, copied-more, copied-all}
+use Rattle.interface.specs.Laws.Copies.{copied, copied-more, copied-all}
 use Rattle.exports.proofs.copy.Statement.{statement}
 use Rattle.exports.proofs.copy.Tie as tie
 

@@ -8,8 +8,8 @@ use lib.ListN.{length, length-map}
 use mir.Syntax.{w32}
 use mir.Val.{toZ, ofZ}
 use mir.Facts.{toZ-ofZ}
-use Rattle.exports.specs.Arrays.{PLACES, arrayOf}
-use Rattle.exports.specs.Laws.Arrays.{begun, midway, finished, begun-length, parts-room, midway-length, numbers-room, array-made, array-places}
+use Rattle.interface.specs.Arrays.{PLACES, arrayOf}
+use Rattle.interface.specs.Laws.Arrays.{begun, midway, finished, begun-length, parts-room, midway-length, numbers-room, array-made, array-places}
 use Rattle.layout.specs.Record.{SLOTS}
 use Rattle.exports.proofs.fill.Statement.{statement}
 use Rattle.exports.proofs.fill.Tie as tie

@@ -1,6 +1,6 @@
 -- `exports::is_octet` meets its contract. Assumes nothing.
 use mir.Facts.{toZ-ofZ}
-use Rattle.exports.specs.Laws.Octets.{below-none, above-tells}
+use Rattle.interface.specs.Laws.Octets.{below-none, above-tells}
 use Rattle.exports.proofs.is_octet.Statement.{statement}
 use Rattle.exports.proofs.is_octet.Tie as tie
 

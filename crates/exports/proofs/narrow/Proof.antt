@@ -8,8 +8,8 @@ use denote.Ref.{now}
 use lib.IntN.{pos}
 use lib.ListN.{length, length-set}
 use mir.Facts.{toZ-ofZ}
-use Rattle.exports.specs.Arrays.{octetOf}
-use Rattle.exports.specs.Laws.Copies.{copied, mapped-more, mapped-all}
+use Rattle.interface.specs.Arrays.{octetOf}
+use Rattle.interface.specs.Laws.Copies.{copied, mapped-more, mapped-all}
 use Rattle.exports.proofs.narrow.Statement.{statement}
 use Rattle.exports.proofs.narrow.Tie as tie
 

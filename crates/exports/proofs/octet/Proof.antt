@@ -3,8 +3,8 @@ use mathlib.Core.Path.{_≡_, sym, _∙_}
 use mathlib.Core.Bool.{true}
 use borrow.Author.Needs.{needs}
 use mir.Facts.{toZ-ofZ, fits-of-lt}
-use Rattle.exports.specs.Arrays.{isOctet}
-use Rattle.exports.specs.Laws.Octets.{octet-positive, octet-is, octet-none}
+use Rattle.interface.specs.Arrays.{isOctet}
+use Rattle.interface.specs.Laws.Octets.{octet-positive, octet-is, octet-none}
 use Rattle.exports.proofs.octet.Statement.{statement}
 use Rattle.exports.proofs.octet.Tie as tie
 

@@ -3,8 +3,8 @@ use mathlib.Core.Path.{ap, _∙_}
 use borrow.Author.Needs.{needs, sfits-of}
 use denote.Ref.{now}
 use mir.Facts.{toZ-ofZ}
-use Rattle.exports.specs.Arrays.{octetOf}
-use Rattle.exports.specs.Laws.Arrays.{record-made}
+use Rattle.interface.specs.Arrays.{octetOf}
+use Rattle.interface.specs.Laws.Arrays.{record-made}
 use Rattle.exports.proofs.record_of.Statement.{statement}
 use Rattle.exports.proofs.record_of.Tie as tie
 

@@ -5,8 +5,8 @@ use borrow.Author.Needs.{needs}
 use denote.Ref.{now}
 use Rattle.layout.specs.declared.Choice.{Choice}
 use Rattle.codec.specs.Laws.Codec.{octets-all}
-use Rattle.exports.specs.Packed.{sideWord, choiceWord}
-use Rattle.exports.specs.Laws.Fits.{FitView, choose-fits}
+use Rattle.interface.specs.Packed.{sideWord, choiceWord}
+use Rattle.interface.specs.Laws.Fits.{FitView, choose-fits}
 use Rattle.exports.proofs.ref_choose.Statement.{statement}
 use Rattle.exports.proofs.ref_choose.Tie as tie
 

@@ -6,9 +6,9 @@ use denote.Ref.{now}
 use Rattle.layout.specs.declared.Reading.{Reading}
 use Rattle.layout.specs.Answer.{placeOf, lengthOf}
 use Rattle.codec.specs.Laws.Codec.{octets-all}
-use Rattle.exports.specs.Laws.Fits.{FitAnswer, read-fits}
-use Rattle.exports.specs.Arrays.{Fills}
-use Rattle.exports.specs.Laws.Arrays.{fills-refused, fills-other, fills-all}
+use Rattle.interface.specs.Laws.Fits.{FitAnswer, read-fits}
+use Rattle.interface.specs.Arrays.{Fills}
+use Rattle.interface.specs.Laws.Arrays.{fills-refused, fills-other, fills-all}
 use Rattle.exports.proofs.ref_read.Statement.{statement}
 use Rattle.exports.proofs.ref_read.Tie as tie
 

@@ -7,8 +7,8 @@ use lib.ListN.{length}
 use Rattle.codec.specs.Change.{put}
 use Rattle.codec.specs.Laws.Change.{newOctets}
 use Rattle.codec.specs.Laws.Codec.{octets-all}
-use Rattle.exports.specs.Packed.{answerWord}
-use Rattle.exports.specs.Laws.Fits.{FitAnswer, edit-fits}
+use Rattle.interface.specs.Packed.{answerWord}
+use Rattle.interface.specs.Laws.Fits.{FitAnswer, edit-fits}
 use Rattle.exports.proofs.ref_replace.Statement.{statement}
 use Rattle.exports.proofs.ref_replace.Tie as tie
 

@@ -5,8 +5,8 @@ use borrow.Author.Needs.{needs}
 use denote.Ref.{now}
 use lib.ListN.{length}
 use Rattle.codec.specs.Laws.Codec.{octets-all}
-use Rattle.exports.specs.Packed.{answerWord}
-use Rattle.exports.specs.Laws.Fits.{FitAnswer, sheet-fits}
+use Rattle.interface.specs.Packed.{answerWord}
+use Rattle.interface.specs.Laws.Fits.{FitAnswer, sheet-fits}
 use Rattle.exports.proofs.ref_sheet.Statement.{statement}
 use Rattle.exports.proofs.ref_sheet.Tie as tie
 

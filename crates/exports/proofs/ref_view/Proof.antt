@@ -4,8 +4,8 @@ use native.Mathlib.Omega.{arith}
 use borrow.Author.Needs.{needs}
 use denote.Ref.{now}
 use Rattle.codec.specs.Laws.Codec.{octets-all}
-use Rattle.exports.specs.Packed.{viewWord}
-use Rattle.exports.specs.Laws.Fits.{FitView, view-fits}
+use Rattle.interface.specs.Packed.{viewWord}
+use Rattle.interface.specs.Laws.Fits.{FitView, view-fits}
 use Rattle.exports.proofs.ref_view.Statement.{statement}
 use Rattle.exports.proofs.ref_view.Tie as tie
 

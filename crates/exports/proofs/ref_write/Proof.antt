@@ -3,8 +3,8 @@ use mathlib.Core.Path.{sym, ap, _∙_, subst}
 use borrow.Author.Needs.{needs}
 use denote.Ref.{now}
 use lib.ListN.{length}
-use Rattle.exports.specs.Packed.{answerWord}
-use Rattle.exports.specs.Laws.Fits.{FitAnswer, write-fits}
+use Rattle.interface.specs.Packed.{answerWord}
+use Rattle.interface.specs.Laws.Fits.{FitAnswer, write-fits}
 use Rattle.exports.proofs.ref_write.Statement.{statement}
 use Rattle.exports.proofs.ref_write.Tie as tie
 

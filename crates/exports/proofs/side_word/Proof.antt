@@ -1,6 +1,6 @@
 -- `exports::side_word` meets its contract: one law for each case. Assumes nothing.
 use borrow.Author.Needs.{needs}
-use Rattle.exports.specs.Laws.Packed.{shown-fits, shown-word, hidden-fits, hidden-word}
+use Rattle.interface.specs.Laws.Packed.{shown-fits, shown-word, hidden-fits, hidden-word}
 use Rattle.exports.proofs.side_word.Statement.{statement}
 use Rattle.exports.proofs.side_word.Tie as tie
 

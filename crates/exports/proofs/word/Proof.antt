@@ -1,7 +1,7 @@
 -- `exports::word` meets its contract. Assumes nothing.
 use mathlib.Core.Path.{refl}
 use borrow.Author.Needs.{needs}
-use Rattle.exports.specs.Packed.{wordOf}
+use Rattle.interface.specs.Packed.{wordOf}
 use Rattle.exports.proofs.word.Statement.{statement}
 use Rattle.exports.proofs.word.Tie as tie
 

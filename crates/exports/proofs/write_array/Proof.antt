@@ -7,8 +7,8 @@ use lib.IntN.{pos}
 use lib.ListN.{getD}
 use mir.Facts.{toZ-ofZ}
 use Rattle.layout.specs.Papers.{known}
-use Rattle.exports.specs.Arrays.{octetOf}
-use Rattle.exports.specs.Laws.Arrays.{array-length, array-unknown, array-parts, array-written}
+use Rattle.interface.specs.Arrays.{octetOf}
+use Rattle.interface.specs.Laws.Arrays.{array-length, array-unknown, array-parts, array-written}
 use Rattle.exports.proofs.write_array.Statement.{statement}
 use Rattle.exports.proofs.write_array.Tie as tie
 

@@ -3,8 +3,8 @@ use mathlib.Core.Path.{ap, _∙_}
 use native.Mathlib.Omega.{arith}
 use denote.Ref.{now}
 use Rattle.words.specs.Numbers.{valueIn}
-use Rattle.words.specs.Octets.{octetsIn}
-use Rattle.words.specs.Laws.Octets.{octets-taken, octets-counted, octets-held}
+use Rattle.hex.specs.Octets.{octetsIn}
+use Rattle.hex.specs.Laws.Octets.{octets-taken, octets-counted, octets-held}
 use Rattle.requests.specs.Laws.Requests.{wordIn, choose-said}
 use Rattle.requests.proofs.choose.Statement.{statement}
 use Rattle.requests.proofs.choose.Tie as tie

@@ -26,7 +26,7 @@ use Rattle.text.specs.Laws.Typing.{types-as, types-behind}
 use Rattle.words.specs.Lines.{wordOf}
 use Rattle.words.specs.Numbers.{valueIn}
 use Rattle.words.specs.Laws.Numbers.{value-most}
-use Rattle.words.specs.Octets.{octetsIn, listIn}
+use Rattle.hex.specs.Octets.{octetsIn, listIn}
 use Rattle.protocol.specs.Line.{wordsOf, nth, wordsAt, placesFrom}
 use Rattle.protocol.specs.Forms.{forms, judgedBy, parseOf}
 use Rattle.protocol.specs.Record.{recordIn, recordAt}

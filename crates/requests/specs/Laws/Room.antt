@@ -36,7 +36,7 @@ use Rattle.text.specs.Laws.Typing.{typed-front}
 use Rattle.longest.specs.Laws.Longest.{sheet-longest}
 use Rattle.words.specs.Numbers.{valueIn}
 use Rattle.words.specs.Laws.Numbers.{value-most}
-use Rattle.words.specs.Octets.{isOctets, octetOf, octetsOf, octetsIn, listIn}
+use Rattle.hex.specs.Octets.{isOctets, octetOf, octetsOf, octetsIn, listIn}
 use Rattle.protocol.specs.Line.{wordsOf, nth}
 use Rattle.protocol.specs.Forms.{parseOf}
 use Rattle.protocol.specs.Record.{recordIn}

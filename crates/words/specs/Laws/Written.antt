@@ -1,29 +1,25 @@
--- What is taken is what was written: a word is the plain decimal of the number that is taken from it, and of no other; its octets are those of its pairs of hex digits,
--- in capitals and in small letters; and the words of a line are those that were put into it with one space between.
-use mathlib.Core.Path.{_≡_, refl, sym, ap, ap₂, _∙_}
+-- What is taken is what was written: a word is the plain decimal of the number that is taken from it, and of no other; and the first word of
+-- a line is the one that was put there with a space behind it.
+use mathlib.Core.Path.{_≡_, refl, sym, ap, _∙_}
 use mathlib.Core.Bool.{Bool, true, false, not, _&&_}
 use mathlib.Core.List.{List, [], _∷_, _++_, append-nil, append-assoc}
 use Prim.Native.Nat.{ℕ, zero, suc, _+_, _-_, _*_, _/_, _%_, _^_, _≤_, _<_}
 use native.Mathlib.Nat.{pow-suc, pow-le-pow-right, mul-le-mul-right, mul-comm, mul-assoc}
 use native.Mathlib.Omega.{arith}
 use borrow.Author.Tests.{ne-eqb, le-leb, lt-ltb, le-ltb, ltb-true, ltb-false, leb-true, eqb-true, eqb-false, not-true}
-use lib.Dec.{T, ltb, leb, eqb, ltb→lt}
+use lib.Dec.{ltb, leb, eqb}
 use lib.IntN.{ℤ, pos, negsuc}
 use lib.ListN.{length, getD, take, drop}
 use lib.Seq.{take-append-seam, take-length}
 use lib.Signed.{mag}
 use Rattle.codec.specs.Pick.{pick}
-use lib.Pow.{areBytes}
-use Rattle.codec.specs.Laws.Tests.{holds, and-l, and-r}
+use Rattle.codec.specs.Laws.Tests.{holds}
 use Rattle.scope.specs.Sheet.{digitsOf, decimal, signedDecimal}
 use Rattle.text.specs.Decimals.{valueFrom, valueOf, isDigit}
 use Rattle.text.specs.Laws.Decimals.{areDigits, value-decimal, all-digits, no-zero-in-front, some-digit, decimal-zero}
-use Rattle.text.specs.Hex.{capital, pairText, pairsText, hexText}
 use Rattle.words.specs.Lines.{wordLength, wordOf}
 use Rattle.words.specs.Numbers.{leads, goesOn, isNumber, numberIn, isSigned, signedValue}
 use Rattle.words.specs.Laws.Numbers.{number-value, digit-least}
-use Rattle.words.specs.Octets.{hexDigit, areHex, isOctets, octetOf, octetsOf}
-use Rattle.words.specs.Laws.Octets.{hex-number, hex-capital, hex-small, octets-sign, octets-even}
 
 -- two tests that hold together
 both : (a b : Bool) → a && b ≡ true → (a ≡ true) × (b ≡ true)
@@ -194,59 +190,6 @@ signed-written w e = by-sign (eqb (getD w 0 0) 45) refl e
         let v : suc (valueOf (drop 1 w) - 1) ≡ valueOf (drop 1 w) = omega (arith, leb-true 1 (valueOf (drop 1 w)) (p .1)) in
         ap (λ k. 45 ∷ decimal k) v ∙ ap (45 ∷_) (taken-written 2_147_483_648 (drop 1 w) (omega arith) (p .0)) ∙ sym (sign-first w (eqb-true (getD w 0 0) 45 t))
     by-sign false t u = taken-written 2_147_483_647 w (omega arith) u
-
--- ---- octets
-
-capital-taken : (d : ℕ) → d < 16 → hexDigit (capital d) ≡ d
-unfolding capital
-capital-taken d h = by-letter (ltb d 10) refl
-  where
-    by-letter : (b : Bool) → ltb d 10 ≡ b → hexDigit (pick b (48 + d) (55 + d)) ≡ d
-    by-letter true e = let k : d < 10 = ltb-true d 10 e in sym (hex-number (48 + d) (omega arith) (omega arith)) ∙ omega arith
-    by-letter false e = let k : 10 ≤ d = ltb-false d 10 e in sym (hex-capital (55 + d) (omega arith) (omega arith)) ∙ omega arith
-
--- a small letter is as good as the capital
-pub either-case : (o : ℕ) → 65 ≤ o → o ≤ 70 → hexDigit (o + 32) ≡ hexDigit o
-either-case o h k = let e : o + 32 - 97 + 10 ≡ o - 65 + 10 = omega arith in sym (hex-small (o + 32) (omega arith) (omega arith)) ∙ e ∙ hex-capital o h k
-
-octet-taken : (o : ℕ) → o < 256 → octetOf (capital (o / 16)) (capital (o % 16)) ≡ o
-unfolding octetOf
-octet-taken o h = rw (capital-taken (o / 16) (omega arith), capital-taken (o % 16) (omega arith)) (omega arith)
-
-pairs-taken : (os : List ℕ) → T (areBytes os) → octetsOf (pairsText os) ≡ os
-unfolding octetsOf pairsText pairText
-pairs-taken [] t = refl
-pairs-taken (o ∷ os) t =
-    ap₂ _∷_ (octet-taken o (ltb→lt o 256 (and-l (ltb o 256) _ t))) (pairs-taken os (and-r (ltb o 256) _ t))
-
--- the octets of a word that was written of octets are those
-pub octets-taken : (os : List ℕ) → T (areBytes os) → octetsOf (hexText os) ≡ os
-unfolding hexText octetsOf
-octets-taken [] t = refl
-octets-taken (o ∷ os) t = pairs-taken (o ∷ os) t
-
--- and it is such a word, if they are at most 4,096
-pairs-hex : (os : List ℕ) → T (areBytes os) → areHex (pairsText os) ≡ true
-unfolding areHex pairsText pairText
-pairs-hex [] t = refl
-pairs-hex (o ∷ os) t =
-    let h : o < 256 = ltb→lt o 256 (and-l (ltb o 256) _ t) in
-    let a : hexDigit (capital (o / 16)) ≡ o / 16 = capital-taken (o / 16) (omega arith) in
-    let b : hexDigit (capital (o % 16)) ≡ o % 16 = capital-taken (o % 16) (omega arith) in
-    together _ _ (lt-ltb (hexDigit (capital (o / 16))) 16 (omega arith))
-    (together _ _ (lt-ltb (hexDigit (capital (o % 16))) 16 (omega arith)) (pairs-hex os (and-r (ltb o 256) _ t)))
-
-pairs-length : (os : List ℕ) → length (pairsText os) ≡ 2 * length os
-unfolding pairsText pairText
-pairs-length [] = refl
-pairs-length (o ∷ os) = omega (arith, pairs-length os)
-
-pub octets-are : (os : List ℕ) → T (areBytes os) → length os ≤ 4_096 → isOctets (hexText os) ≡ true
-unfolding hexText
-octets-are [] t h = sym (octets-sign (45 ∷ []) refl)
-octets-are (o ∷ os) t h =
-    let e : length (pairsText (o ∷ os)) ≡ 2 * suc (length os) = pairs-length (o ∷ os) in
-    sym (octets-even (pairsText (o ∷ os)) (λ x. omega arith) (omega arith) (omega arith) (omega arith)) ∙ pairs-hex (o ∷ os) t
 
 -- ---- words
 

@@ -1,0 +1,3 @@
+-- What follows from the definitions, for the proofs of the functions.
+pub mod Octets
+pub mod Written
