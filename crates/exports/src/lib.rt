@@ -1,26 +1,19 @@
 // The C interface: each operation as a function that a program in C calls, declared in include/refdesk.h.
 // Promises: the word that is answered, and every element of lent memory afterwards, are those of 01's definitions, for every input; a refusal writes nothing.
-// Stands on reader, writer, views, desk and sheet, which it knows by their contracts.
+// Stands on reader, arrays, views, desk and sheet, which it knows by their contracts.
 ghost use mathlib.Core.Path.{_≡_};
-ghost use mathlib.Core.List.{map};
-ghost use lib.IntN.{pos};
 ghost use lib.ListN.{length};
 ghost use Rattle.codec.specs.Change.{remove, put};
 ghost use Rattle.layout.specs.Answer.{placeOf, lengthOf, viewPlace, viewLength};
 ghost use Rattle.scope.specs.Reading.{readOf};
-ghost use Rattle.scope.specs.Outputs.{withRoom, Leaves};
+ghost use Rattle.scope.specs.Outputs.{withRoom};
 ghost use Rattle.scope.specs.Sheet.{sheetOf};
 ghost use Rattle.scope.specs.Views.{viewOf, chooseOf};
 ghost use Rattle.scope.specs.Desk.{editOf};
 ghost use Rattle.interface.specs.Packed.{wordOf, Fit, answerWord, sideWord, viewWord, choiceWord, Hands};
-ghost use Rattle.interface.specs.Arrays.{PLACES, arrayOf, Fills, isOctet, areOctets, octetOf, ofArray, writeArray};
+ghost use Rattle.interface.specs.Arrays.{Fills, writeArray};
 use layout::Answer;
-use layout::Record;
-use layout::SLOTS;
 use layout::View;
-
-// The places of a record's array.
-const PLACES: usize = 10 + SLOTS;
 
 // Four numbers of 16 bits each, the refusal's number highest.
 fn word(number: u8, which: u8, place: usize, size: usize) -> u64
@@ -53,141 +46,14 @@ fn side_word(which: u8, v: View) -> u64
     }
 }
 
-fn is_octet(z: i32) -> bool
-    ensures { λ r. ⌜ r ≡ isOctet z ⌝ }
-{
-    if z < 0 {
-        return false;
-    }
-    z < 256
-}
-
-fn are_octets(numbers: &[i32]) -> bool
-    ensures { λ r. ⌜ r ≡ areOctets (now (numbers .entry)) ⌝ }
-{
-    let mut i: usize = 0;
-    while i < numbers.len() {
-        if is_octet(numbers[i]) {
-            i += 1;
-        } else {
-            return false;
-        }
-    }
-    true
-}
-
-// The octet that a number is; 0 for one that is none.
-fn octet(z: i32) -> u8
-    ensures { λ r. ⌜ r ≡ octetOf z ⌝ }
-{
-    if is_octet(z) {
-        return z as u8;
-    }
-    0
-}
-
-fn signed(o: u8) -> i32
-    ensures { λ r. ⌜ r ≡ pos o ⌝ }
-{
-    o as i32
-}
-
-// Octets as numbers, numbers as octets, and numbers as they are, from one slice into another that is as long.
-fn widen(octets: &[u8], numbers: &mut [i32])
-    requires { ⌜ length (now octets) ≡ length (now numbers) ⌝ }
-    ensures { λ _. ⌜ now (numbers .exit) ≡ map pos (now (octets .entry)) ⌝ }
-{
-    let mut i: usize = 0;
-    while i < octets.len() {
-        numbers[i] = signed(octets[i]);
-        i += 1;
-    }
-}
-
-fn narrow(numbers: &[i32], octets: &mut [u8])
-    requires { ⌜ length (now numbers) ≡ length (now octets) ⌝ }
-    ensures { λ _. ⌜ now (octets .exit) ≡ map octetOf (now (numbers .entry)) ⌝ }
-{
-    let mut i: usize = 0;
-    while i < numbers.len() {
-        octets[i] = octet(numbers[i]);
-        i += 1;
-    }
-}
-
-fn copy(from: &[i32], to: &mut [i32])
-    requires { ⌜ length (now from) ≡ length (now to) ⌝ }
-    ensures { λ _. ⌜ now (to .exit) ≡ now (from .entry) ⌝ }
-{
-    let mut i: usize = 0;
-    while i < from.len() {
-        to[i] = from[i];
-        i += 1;
-    }
-}
-
-// A record into its array.
-fn fill(kept: Record, out: &mut [i32])
-    requires { ⌜ length (now out) ≡ PLACES ⌝ }
-    ensures { λ _. ⌜ now (out .exit) ≡ arrayOf kept ⌝ }
-{
-    let parts = kept.parts;
-    let numbers = kept.numbers;
-    out[0] = signed(kept.cat);
-    out[1] = signed(kept.items);
-    widen(&parts[..], &mut out[2..10]);
-    copy(&numbers[..], &mut out[10..]);
-}
-
-// The record of an array.
-fn record_of(a: &[i32]) -> Record
-    requires { ⌜ length (now a) ≡ PLACES ⌝ }
-    ensures { λ r. ⌜ r ≡ ofArray (now (a .entry)) ⌝ }
-{
-    let mut parts = [0u8; 8];
-    let mut numbers = [0i32; SLOTS];
-    narrow(&a[2..10], &mut parts[..]);
-    copy(&a[10..], &mut numbers[..]);
-    Record {
-        cat: octet(a[0]),
-        items: octet(a[1]),
-        parts: parts,
-        numbers: numbers,
-    }
-}
-
-// What a refused array answers, or what the writer does.
-fn write_array(a: &[i32], out: &mut [u8]) -> Answer
-    ensures { λ r. ⌜ Leaves (writeArray (now (a .entry)) (length (now (out .entry)))) (now (out .entry)) r (now (out .exit)) ⌝ }
-{
-    if a.len() == PLACES {
-        if layout::is_known(octet(a[0])) {
-            if are_octets(&a[1..10]) {
-                return writer::write(record_of(a), &mut *out);
-            }
-            return Answer::Refused(10, 0);
-        }
-        return Answer::Refused(1, 0);
-    }
-    Answer::Refused(10, 0)
-}
-
 // The field's record into an array of 87; LEN is the length that is answered.
 #[no_mangle]
 pub extern "C" fn ref_read(cat: u8, field: &[u8], out: &mut [i32]) -> u64
     ensures { λ r. ⌜ Fills (readOf cat (now (field .entry))) (now (out .entry)) r (now (out .exit)) ⌝ }
 {
     let found = reader::read(cat, field);
-    let a = found.answer;
-    let Answer::Accepted(_) = a else {
-        return answer_word(a);
-    };
-    if out.len() == PLACES {
-        let kept = found.kept;
-        fill(kept, &mut *out);
-        return answer_word(a);
-    }
-    answer_word(Answer::Refused(11, 0))
+    let done = arrays::read_array(found, &mut *out);
+    answer_word(done)
 }
 
 // The field of a record's array, into the front of the output.
@@ -195,7 +61,7 @@ pub extern "C" fn ref_read(cat: u8, field: &[u8], out: &mut [i32]) -> u64
 pub extern "C" fn ref_write(a: &[i32], out: &mut [u8]) -> u64
     ensures { λ r. ⌜ Hands (writeArray (now (a .entry)) (length (now (out .entry)))) (now (out .entry)) r (now (out .exit)) ⌝ }
 {
-    let done = write_array(a, &mut *out);
+    let done = arrays::write_array(a, &mut *out);
     answer_word(done)
 }
 

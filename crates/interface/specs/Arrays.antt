@@ -36,6 +36,10 @@ unfolding arrayOf
 filledBy (Refused n p) f out = out
 filledBy (Accepted n) f out = arrayOf f
 
+-- what filling an array by a reading promises of the answer, and of the array before and after
+abbrev pub Filled : Reading → List ℤ → Answer → List ℤ → Type 0
+Filled r out a out′ = (a ≡ fillAnswer (length out) (r .answer)) × (out′ ≡ filledBy (fillAnswer (length out) (r .answer)) (r .kept) out)
+
 -- what reading into an array promises of its word, and of the array before and after
 pub record Fills (r : Reading) (out : List ℤ) (w : ℕ) (out′ : List ℤ) : Type 0 where
   pub word : w ≡ answerWord (fillAnswer (length out) (r .answer))

@@ -17,7 +17,7 @@ use Rattle.scope.specs.Writing.{writeOf, Wrote}
 use Rattle.scope.specs.Outputs.{Leaves}
 use Rattle.scope.specs.Laws.Outputs.{refused-left}
 use Rattle.interface.specs.Packed.{answerWord}
-use Rattle.interface.specs.Arrays.{PLACES, Fills, arrayOf, fillAnswer, filledBy, areOctets, octetOf, ofArray, writeArray}
+use Rattle.interface.specs.Arrays.{PLACES, Filled, Fills, arrayOf, fillAnswer, filledBy, areOctets, octetOf, ofArray, writeArray}
 use Rattle.layout.specs.Record.{SLOTS}
 
 -- ---- the ways out of `write_array`
@@ -55,20 +55,24 @@ record-made a ec ei ep en = λ t. record {
   numbers = (en ∙ take-all (length a - 10) (drop 10 a) (omega (arith, length-drop 10 a))) t;
 }
 
--- ---- the ways out of `ref_read`
+-- ---- the ways out of `read_array`
 
 module _ (r : Reading) (out : List ℤ) where
-  pub fills-refused : {n p : ℕ} → r .answer ≡ Refused n p → {w : ℕ} → w ≡ answerWord (r .answer) → Fills r out w out
+  pub filled-refused : {n p : ℕ} → r .answer ≡ Refused n p → Filled r out (r .answer) out
   unfolding fillAnswer filledBy
-  fills-refused e ew = record { word = rw e (ew ∙ rw e refl); array = rw e refl }
+  filled-refused e = (rw e refl, rw e refl)
 
-  pub fills-other : {n : ℕ} → r .answer ≡ Accepted n → (length out ≡ PLACES → ⊥) → {w : ℕ} → w ≡ answerWord (Refused 11 0) → Fills r out w out
+  pub filled-other : {n : ℕ} → r .answer ≡ Accepted n → (length out ≡ PLACES → ⊥) → Filled r out (Refused 11 0) out
   unfolding fillAnswer filledBy
-  fills-other e h ew = record { word = rw (e, ne-eqb (length out) PLACES h) ew; array = rw (e, ne-eqb (length out) PLACES h) refl }
+  filled-other e h = (rw (e, ne-eqb (length out) PLACES h) refl, rw (e, ne-eqb (length out) PLACES h) refl)
 
-  pub fills-all : {n : ℕ} → r .answer ≡ Accepted n → length out ≡ PLACES → {w : ℕ} → w ≡ answerWord (r .answer) → {out′ : List ℤ} → out′ ≡ arrayOf (r .kept) → Fills r out w out′
+  pub filled-all : {n : ℕ} → r .answer ≡ Accepted n → length out ≡ PLACES → {out′ : List ℤ} → out′ ≡ arrayOf (r .kept) → Filled r out (r .answer) out′
   unfolding fillAnswer filledBy
-  fills-all e h ew eo = record { word = rw (e, eq-eqb (length out) PLACES h) (ew ∙ rw e refl); array = rw (e, eq-eqb (length out) PLACES h) eo }
+  filled-all e h eo = (rw (e, eq-eqb (length out) PLACES h) refl, rw (e, eq-eqb (length out) PLACES h) eo)
+
+  -- and the word of `ref_read`
+  pub fills-by : {a : Answer} {out′ : List ℤ} → Filled r out a out′ → {w : ℕ} → w ≡ answerWord a → Fills r out w out′
+  fills-by x ew = record { word = ew ∙ ap answerWord (x .0); array = x .1 }
 
 -- ---- the array of a record has 87 places
 

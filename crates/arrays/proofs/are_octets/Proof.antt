@@ -1,4 +1,4 @@
--- `exports::are_octets` meets its contract: the numbers passed are octets. Assumes nothing.
+-- `arrays::are_octets` meets its contract: the numbers passed are octets. Assumes nothing.
 use mathlib.Core.Path.{_≡_, refl, sym, ap, _∙_}
 use mathlib.Core.Bool.{Bool}
 use Prim.Native.Nat.{_-_, _≤_}
@@ -10,8 +10,8 @@ use lib.ListN.{length, drop, getD}
 use mir.Facts.{toZ-ofZ}
 use Rattle.interface.specs.Arrays.{isOctet, areOctets}
 use Rattle.interface.specs.Laws.Octets.{octets-more, octets-not, octets-all}
-use Rattle.exports.proofs.are_octets.Statement.{statement}
-use Rattle.exports.proofs.are_octets.Tie as tie
+use Rattle.arrays.proofs.are_octets.Statement.{statement}
+use Rattle.arrays.proofs.are_octets.Tie as tie
 
 abbrev Inv-loop : tie.InvT-loop
 Inv-loop numbers i₀ i = (i ≤ length numbers) × (areOctets numbers ≡ areOctets (drop i numbers))

@@ -1,12 +1,12 @@
--- `exports::octet` meets its contract. Assumes nothing.
+-- `arrays::octet` meets its contract. Assumes nothing.
 use mathlib.Core.Path.{_≡_, sym, _∙_}
 use mathlib.Core.Bool.{true}
 use borrow.Author.Needs.{needs}
 use mir.Facts.{toZ-ofZ, fits-of-lt}
 use Rattle.interface.specs.Arrays.{isOctet}
 use Rattle.interface.specs.Laws.Octets.{octet-positive, octet-is, octet-none}
-use Rattle.exports.proofs.octet.Statement.{statement}
-use Rattle.exports.proofs.octet.Tie as tie
+use Rattle.arrays.proofs.octet.Statement.{statement}
+use Rattle.arrays.proofs.octet.Tie as tie
 
 yes : (c : tie.Then1) → isOctet (c .before .before .args .z) ≡ true
 yes c = rw (toZ-ofZ (c .before .before .fits .z)) at (sym (c .before .is-octet .ensures) ∙ c .if1 .taken)

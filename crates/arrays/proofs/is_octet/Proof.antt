@@ -1,8 +1,8 @@
--- `exports::is_octet` meets its contract. Assumes nothing.
+-- `arrays::is_octet` meets its contract. Assumes nothing.
 use mir.Facts.{toZ-ofZ}
 use Rattle.interface.specs.Laws.Octets.{below-none, above-tells}
-use Rattle.exports.proofs.is_octet.Statement.{statement}
-use Rattle.exports.proofs.is_octet.Tie as tie
+use Rattle.arrays.proofs.is_octet.Statement.{statement}
+use Rattle.arrays.proofs.is_octet.Tie as tie
 
 returns : tie.Need-returns
 returns c = below-none (c .before .args .z) (rw (toZ-ofZ (c .before .fits .z)) at (c .if1 .taken))

@@ -1,4 +1,4 @@
--- `exports::fill` meets its contract: two numbers, the parts and the numbers stand behind each other. Assumes nothing.
+-- `arrays::fill` meets its contract: two numbers, the parts and the numbers stand behind each other. Assumes nothing.
 use mathlib.Core.Path.{_≡_, sym, ap, _∙_}
 use native.Mathlib.Omega.{arith}
 use borrow.Author.Needs.{needs, sfits-of}
@@ -11,8 +11,8 @@ use mir.Facts.{toZ-ofZ}
 use Rattle.interface.specs.Arrays.{PLACES, arrayOf}
 use Rattle.interface.specs.Laws.Arrays.{begun, midway, finished, begun-length, parts-room, midway-length, numbers-room, array-made, array-places}
 use Rattle.layout.specs.Record.{SLOTS}
-use Rattle.exports.proofs.fill.Statement.{statement}
-use Rattle.exports.proofs.fill.Tie as tie
+use Rattle.arrays.proofs.fill.Statement.{statement}
+use Rattle.arrays.proofs.fill.Tie as tie
 
 -- a record has 8 parts and 77 numbers
 parts-many : (c : tie.Start) → length (c .args .kept .parts) ≡ 8

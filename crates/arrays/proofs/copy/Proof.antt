@@ -1,4 +1,4 @@
--- `exports::copy` meets its contract: the loop has copied the numbers passed. Assumes nothing.
+-- `arrays::copy` meets its contract: the loop has copied the numbers passed. Assumes nothing.
 use mathlib.Core.Path.{_≡_, refl, _∙_}
 use Prim.Native.Nat.{_-_, _≤_}
 use native.Mathlib.Omega.{arith}
@@ -8,8 +8,8 @@ use lib.IntN.{pos}
 use lib.ListN.{length, length-set}
 use mir.Facts.{toZ-ofZ}
 use Rattle.interface.specs.Laws.Copies.{copied, copied-more, copied-all}
-use Rattle.exports.proofs.copy.Statement.{statement}
-use Rattle.exports.proofs.copy.Tie as tie
+use Rattle.arrays.proofs.copy.Statement.{statement}
+use Rattle.arrays.proofs.copy.Tie as tie
 
 abbrev Inv-loop : tie.InvT-loop
 Inv-loop from to₀ i₀ to i = (i ≤ length from) × (to ≡ copied i from to₀) × (length to ≡ length to₀)

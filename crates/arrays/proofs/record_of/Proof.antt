@@ -1,12 +1,12 @@
--- `exports::record_of` meets its contract. Assumes nothing.
+-- `arrays::record_of` meets its contract. Assumes nothing.
 use mathlib.Core.Path.{ap, _∙_}
 use borrow.Author.Needs.{needs, sfits-of}
 use denote.Ref.{now}
 use mir.Facts.{toZ-ofZ}
 use Rattle.interface.specs.Arrays.{octetOf}
 use Rattle.interface.specs.Laws.Arrays.{record-made}
-use Rattle.exports.proofs.record_of.Statement.{statement}
-use Rattle.exports.proofs.record_of.Tie as tie
+use Rattle.arrays.proofs.record_of.Statement.{statement}
+use Rattle.arrays.proofs.record_of.Tie as tie
 
 returns : tie.Need-returns
 returns c =

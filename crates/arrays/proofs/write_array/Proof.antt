@@ -1,4 +1,4 @@
--- `exports::write_array` meets its contract: one law at each way out. Assumes nothing.
+-- `arrays::write_array` meets its contract: one law at each way out. Assumes nothing.
 use mathlib.Core.Path.{_≡_, sym, ap, _∙_}
 use mathlib.Core.Bool.{Bool}
 use borrow.Author.Needs.{needs, sfits-of}
@@ -9,8 +9,8 @@ use mir.Facts.{toZ-ofZ}
 use Rattle.layout.specs.Papers.{known}
 use Rattle.interface.specs.Arrays.{octetOf}
 use Rattle.interface.specs.Laws.Arrays.{array-length, array-unknown, array-parts, array-written}
-use Rattle.exports.proofs.write_array.Statement.{statement}
-use Rattle.exports.proofs.write_array.Tie as tie
+use Rattle.arrays.proofs.write_array.Statement.{statement}
+use Rattle.arrays.proofs.write_array.Tie as tie
 
 abbrev then : tie.After-is-known → tie.Then1
 then c = c .before .before .before
