@@ -1,6 +1,6 @@
 // The program of 01's edges: lists each row of its table 'Octets tried at each edge', in that order, then views and chooses items and says angles.
-// Each row is a line of the protocol (docs/PROTOCOL.md) behind which its answer stands. The file `stdout` is from outside: the rows from that table,
-// the views and the choices from 01's section on them, the angles from the line below the table and, where it has none, from 'The sheet'.
+// Each row is a line of the protocol (docs/PROTOCOL.md) behind which its answer stands. The file `stdout` is from outside: the answers by
+// tests/refdesk.py, the angles by hand from the line below the table and, where it has none, from 'The sheet'.
 
 fn main() {
     list_rows_of_parts();
