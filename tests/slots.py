@@ -1,5 +1,5 @@
 #!/usr/bin/env python3
-"""The slots of the record as the papers' data in crates/layout/specs gives them: docs/NUMBERS.md, and the enums of include/refdesk.h.
+"""The slots of the record as the papers' data in crates/papers/specs gives them: docs/NUMBERS.md, and the enums of include/refdesk.h.
 
     python3 tests/slots.py          says which of the two is not as the data has it
     python3 tests/slots.py write    makes both
@@ -10,7 +10,7 @@ from pathlib import Path
 from typing import NamedTuple
 
 ROOT = Path(__file__).resolve().parent.parent
-SPECS = ROOT / "crates/layout/specs"
+SPECS = ROOT / "crates/papers/specs"
 PAGE = ROOT / "docs/NUMBERS.md"
 HEADER = ROOT / "include/refdesk.h"
 WIDTH = 120  # of the header
@@ -29,7 +29,7 @@ CATEGORIES = {
 }
 
 
-# ---- the notation of crates/layout/specs/Notation.antt and crates/codec/specs/Printed.antt
+# ---- the notation of crates/papers/specs/Notation.antt and crates/codec/specs/Printed.antt
 
 class Number(NamedTuple):
     name: str
@@ -181,7 +181,7 @@ def paper(cat, text=None):
     return value_of(f"printed{cat:03}")
 
 
-# ---- slots and keys (01, 'The sheet'; crates/layout/specs/Names.antt)
+# ---- slots and keys (01, 'The sheet'; crates/papers/specs/Names.antt)
 
 class Line(NamedTuple):
     """A chain part or a subfield, and what its numbers are called."""
@@ -231,7 +231,7 @@ def rows(entries):
 INTRODUCTION = """# The numbers of the record
 
 This page is made by `python3 tests/slots.py write` from the papers' data, `Cat048.antt`,
-`Cat021.antt` and `Cat007.antt` in `crates/layout/specs`. Don't edit it by hand:
+`Cat021.antt` and `Cat007.antt` in `crates/papers/specs`. Don't edit it by hand:
 `tests/selftest.py` fails if it is not as the data has it.
 
 A record has 77 places for numbers. The slot of a number is its place among them, counted from 0.
@@ -365,7 +365,7 @@ def main(arguments):
             path.write_text(text, encoding="utf-8")
     wrong = [str(path.relative_to(ROOT)) for path in differing()]
     for path in wrong:
-        print(f"{path} is not as crates/layout/specs has it: python3 tests/slots.py write")
+        print(f"{path} is not as crates/papers/specs has it: python3 tests/slots.py write")
     return 1 if wrong else 0
 
 

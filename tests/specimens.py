@@ -1,5 +1,6 @@
 #!/usr/bin/env python3
-"""Prints the rows of crates/layout/specs/Specimens.antt: a field of each category with every item, part and subfield, and the record that it reads to.
+"""Prints the rows of crates/papers/specs/Specimens.antt: a field of each category with every item, part and subfield, and what each item holds: its parts
+and its numbers.
 With `sheets` behind, the last rows of crates/scope/specs/Sheets.antt: the sheets of those fields.
 
 The numbers are drawn so that each differs from its neighbours' widths and signs: signed ones are negative, wide ones have their highest bit set.
@@ -42,15 +43,26 @@ def hexed(octets):
     return "".join(f"0x{o:02X} ∷ " for o in octets) + "[]"
 
 
-def record_row(octets, record):
+def slots(item):
+    _, parts, subs = item
+    return sum(len(part[-1]) for part in parts) + sum(len(sub[-1]) for sub in subs)
+
+
+def contents_row(octets, record):
     cat, indicator, counts, numbers = record
+    held, at = [], 0
+    for item, count in zip(PAPERS[cat], counts):
+        its = numbers[at : at + slots(item)]
+        held.append(f"({count}, " + "".join(antt(z) + " ∷ " for z in its) + "[])")
+        at += len(its)
     return "\n".join([
         "    record {",
         f"      cat = {cat};",
         f"      octets = {hexed(octets)};",
         f"      items = 0x{indicator:02X};",
-        "      parts = " + " ∷ ".join(map(str, counts)) + " ∷ [];",
-        "      numbers = " + " ∷ ".join(map(antt, numbers)) + " ∷ [];",
+        "      held =",
+        "          " + "\n          ∷ ".join(held),
+        "          ∷ [];",
         "    }",
     ])
 
@@ -61,7 +73,7 @@ def sheet_row(octets, record):
 
 
 def main():
-    rng, row = random.Random(2026), sheet_row if sys.argv[1:] == ["sheets"] else record_row
+    rng, row = random.Random(2026), sheet_row if sys.argv[1:] == ["sheets"] else contents_row
     for cat in PAPERS:
         print(row(*specimen(cat, rng)))
 

@@ -25,12 +25,12 @@ pub use Rattle.codec.specs.Meaning.{bitsOf, IsItem, zerosIn, HasLayout}
 pub use Rattle.codec.specs.Faults.{FieldFault}
 pub use Rattle.codec.specs.Field.{Contents}
 -- there is such an item
-pub use Rattle.layout.specs.Papers.{numbered}
-pub use Rattle.layout.specs.Papers.{known, printedOf, itemsOf}
+pub use Rattle.papers.specs.Papers.{numbered, known, printedOf, itemsOf}
 -- the record, and the parts and the numbers of some contents in its order; a reading: the answer and the record; an
 -- answer, a view, a choice between two fields
+pub use Rattle.papers.specs.Papers.{SLOTS}
 pub use Rattle.layout.specs.declared.Record.{Record}
-pub use Rattle.layout.specs.Record.{SLOTS, allParts, allNumbers}
+pub use Rattle.layout.specs.Record.{allParts, allNumbers}
 pub use Rattle.layout.specs.declared.Reading.{Reading}
 pub use Rattle.layout.specs.declared.Answer.{Answer}
 pub use Rattle.layout.specs.declared.Answer.the-variants.{Accepted, Refused}

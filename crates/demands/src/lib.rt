@@ -1,2 +1,2 @@
 // The three demands, in specs/: Demands has each sentence of the mission as statements of a program, Terms their words.
-// Promises: the program that scope defines meets them (Kept). There is no code here. Stands on codec, layout and scope.
+// Promises: the program that scope defines meets them (Kept). There is no code here. Stands on papers, layout and scope.

@@ -8,7 +8,7 @@ use Rattle.codec.specs.Pick.{pick}
 use Rattle.codec.specs.Field.{Contents}
 use Rattle.codec.specs.Frame.{Outcome, accepted, refused}
 use Rattle.codec.specs.Change.{alone}
-use Rattle.layout.specs.Papers.{paperOf}
+use Rattle.papers.specs.Papers.{paperOf}
 use Rattle.scope.specs.Reading.{fieldOf}
 use Rattle.scope.specs.Views.{isItem}
 use Rattle.scope.specs.Desk.{listed}

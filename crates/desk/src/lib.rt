@@ -1,6 +1,6 @@
 // The slot desk (01, the section of that name): one item of a field is added, replaced or removed by a slot that was booked for it.
 // Promises: `remove` and `replace` answer and leave what 01 defines, for every input: the field written afresh with that one item changed, or a refusal that writes nothing.
-// Stands on reader and writer, which it knows by their contracts.
+// Stands on reader and outputs, which it knows by their contracts.
 ghost use mathlib.Core.Path.{_≡_};
 ghost use Prim.Native.Nat.{_+_, _-_, _≤_, _<_};
 ghost use lib.ListN.{length, set};
@@ -26,7 +26,7 @@ fn asked(cat: u8, list: u8, item: u8) -> u8
     ensures { λ r. ⌜ r ≡ askedOf cat list item ⌝ }
 {
     if layout::is_item(cat, item) {
-        if layout::present(list, index(item)) {
+        if flags::present(list, index(item)) {
             return 0;
         }
         return 13;
@@ -64,7 +64,7 @@ fn right(cat: u8, i: usize, new: &[u8]) -> bool
     }
     let mut octets = [0u8; 255];
     octets[0] = leaves::octet(n + 2);
-    octets[1] = layout::with_item(0, i);
+    octets[1] = flags::with_item(0, i);
     paste(new, 2, &mut octets);
     let found = reader::survey(cat, &octets[..n + 2]);
     let a = found.answer;
@@ -83,7 +83,7 @@ fn spliced(field: &[u8], items: u8, from: usize, to: usize, new: &[u8], out: &mu
     paste(&field[2..from], 2, &mut octets);
     paste(new, from, &mut octets);
     paste(&field[to..], from + new.len(), &mut octets);
-    writer::deliver(&octets[..n], &mut *out)
+    outputs::deliver(&octets[..n], &mut *out)
 }
 
 // Where the items of a field stand, with the refusal of the field, 12 or 13 as the answer where there is one.
@@ -136,7 +136,7 @@ pub fn remove(cat: u8, field: &[u8], list: u8, item: u8, out: &mut [u8]) -> Answ
         return a;
     };
     let starts = found.starts;
-    let items = layout::without_item(found.items, index(item));
+    let items = flags::without_item(found.items, index(item));
     exchanged(field, len, starts, item, items, &field[..0], &mut *out)
 }
 
@@ -152,7 +152,7 @@ pub fn replace(cat: u8, field: &[u8], list: u8, item: u8, new: &[u8], out: &mut 
     let i = index(item);
     if right(cat, i, new) {
         let starts = found.starts;
-        let items = layout::with_item(found.items, i);
+        let items = flags::with_item(found.items, i);
         return exchanged(field, len, starts, item, items, new, &mut *out);
     }
     Answer::Refused(14, 0)

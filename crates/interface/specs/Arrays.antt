@@ -8,14 +8,14 @@ use lib.IntN.{ℤ, pos, negsuc}
 use lib.ListN.{length, getD, take, drop}
 use Rattle.codec.specs.Pick.{pick}
 use Rattle.codec.specs.Frame.{Outcome, refused}
+use Rattle.papers.specs.Papers.{known}
 use Rattle.layout.specs.declared.Record.{Record}
 use Rattle.layout.specs.declared.Reading.{Reading}
 use Rattle.layout.specs.declared.Answer.{Answer}
 use Rattle.layout.specs.declared.Answer.the-variants.{Accepted, Refused}
-use Rattle.layout.specs.Papers.{known}
 use Rattle.scope.specs.Writing.{writeOf}
 use Rattle.interface.specs.Packed.{answerWord}
-use Rattle.layout.specs.Record.{SLOTS}
+use Rattle.papers.specs.Papers.{SLOTS}
 
 abbrev pub PLACES : ℕ
 PLACES = 10 + SLOTS

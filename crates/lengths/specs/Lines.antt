@@ -13,9 +13,9 @@ use Rattle.codec.specs.Item.{Item, linesOf}
 use Rattle.lengths.specs.declared.Length.{Length}
 use Rattle.lengths.specs.declared.Pieces.{Pieces}
 use Rattle.lengths.specs.declared.Format.{Format}
-use Rattle.layout.specs.Cat048.{cat048}
-use Rattle.layout.specs.Cat021.{cat021}
-use Rattle.layout.specs.Cat007.{cat007}
+use Rattle.papers.specs.Cat048.{cat048}
+use Rattle.papers.specs.Cat021.{cat021}
+use Rattle.papers.specs.Cat007.{cat007}
 
 -- ---- the items: 007's after its first are 048's (Laws.Papers, items-shared)
 

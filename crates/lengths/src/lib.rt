@@ -1,5 +1,5 @@
 // The constant table of lengths: every chain part and subfield of the papers with its octets, its spare bits and its pieces.
-// Promises: `format_of` says of a line what the papers' data say, and of a line behind the last that it is empty. Stands on layout.
+// Promises: `format_of` says of a line what the papers' data say, and of a line behind the last that it is empty. Stands on papers.
 ghost use mathlib.Core.Path.{_≡_};
 ghost use Prim.Native.Nat.{_<_};
 ghost use Rattle.codec.specs.Laws.Arms.{Past};

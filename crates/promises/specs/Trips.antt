@@ -17,14 +17,14 @@ use Rattle.codec.specs.Frame.{accepted, okayFrame}
 use Rattle.codec.specs.Laws.Tests.{and-l, and-r, and-in}
 use Rattle.codec.specs.Laws.Codec.{octets-++}
 use Rattle.codec.specs.Laws.Field.{row-okay}
+use Rattle.papers.specs.Cat048.{cat048}
+use Rattle.papers.specs.Cat021.{cat021}
+use Rattle.papers.specs.Cat007.{cat007}
+use Rattle.papers.specs.Papers.{paperOf, SLOTS, allSlots}
+use Rattle.papers.specs.Laws.Papers.{by-paper, few-items, few-slots}
 use Rattle.layout.specs.declared.Record.{Record}
 use Rattle.layout.specs.declared.Answer.the-variants.{Accepted}
-use Rattle.layout.specs.Cat048.{cat048}
-use Rattle.layout.specs.Cat021.{cat021}
-use Rattle.layout.specs.Cat007.{cat007}
-use Rattle.layout.specs.Papers.{paperOf}
-use Rattle.layout.specs.Record.{SLOTS, allParts, allNumbers, allSlots, flatten}
-use Rattle.layout.specs.Laws.Papers.{by-paper, few-items, few-slots}
+use Rattle.layout.specs.Record.{allParts, allNumbers, flatten}
 use Rattle.layout.specs.Laws.Record.{length-parts, length-numbers}
 use Rattle.scope.specs.Reading.{readOf}
 use Rattle.scope.specs.Writing.{writeOf, Wrote}

@@ -1,12 +1,12 @@
 -- The form of a request is data (docs/PROTOCOL.md): its name and the kinds of its words. One definition judges every line by it.
-use mathlib.Core.Bool.{Bool, true, false}
+use mathlib.Core.Bool.{Bool, false}
 use mathlib.Core.List.{List, [], _∷_, _++_}
 use Prim.Native.Nat.{ℕ, _+_}
 use lib.Dec.{ltb, eqb}
 use lib.ListN.{length, drop, replicate}
 use Rattle.codec.specs.Pick.{pick}
-use Rattle.layout.specs.Names.{text}
-use Rattle.layout.specs.Record.{SLOTS}
+use Rattle.papers.specs.Names.{text}
+use Rattle.papers.specs.Papers.{SLOTS}
 use Rattle.words.specs.Numbers.{isNumber, isSigned}
 use Rattle.hex.specs.Octets.{isOctets, isList}
 use Rattle.protocol.specs.Line.{wordsOf, nth, same, placesFrom}

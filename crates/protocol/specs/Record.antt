@@ -2,7 +2,7 @@
 use mathlib.Core.List.{List, [], _∷_}
 use Prim.Native.Nat.{ℕ, zero, suc}
 use lib.ListN.{take, drop}
-use Rattle.layout.specs.Record.{SLOTS}
+use Rattle.papers.specs.Papers.{SLOTS}
 use Rattle.layout.specs.declared.Record.{Record}
 use Rattle.words.specs.Numbers.{valueIn, wholeIn}
 use Rattle.protocol.specs.Line.{nth, wordsAt}

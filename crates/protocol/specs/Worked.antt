@@ -2,7 +2,7 @@
 use mathlib.Core.Path.{_≡_, refl}
 use mathlib.Core.List.{List, [], _∷_, map}
 use Prim.Native.String.{String}
-use Rattle.layout.specs.Names.{text}
+use Rattle.papers.specs.Names.{text}
 use Rattle.text.specs.Decimals.{valueFrom, valueOf, isDigit}
 use Rattle.text.specs.Laws.Decimals.{areDigits}
 use Rattle.words.specs.Numbers.{leads, goesOn, isNumber, isSigned}

@@ -1,12 +1,11 @@
 // Takes a line of the co-process apart (docs/PROTOCOL.md): one parser for all requests, whose forms are data.
-// Promises: for every line the request that it is and where its words start, or the number of its first word that is wrong; the word and the record
-// that start at a place. Stands on words.
+// Promises: for every line the request that it is and where its words start, or the number of its first word that is wrong; the record that
+// starts at a place. Stands on words.
 ghost use mathlib.Core.Path.{_≡_};
 ghost use Prim.Native.Nat.{_+_, _<_, _≤_};
 ghost use lib.ListN.{length, drop, set};
 ghost use lib.Seq.{sets};
-ghost use Rattle.layout.specs.Record.{SLOTS};
-ghost use Rattle.words.specs.Lines.{wordOf};
+ghost use Rattle.papers.specs.Papers.{SLOTS};
 ghost use Rattle.words.specs.Numbers.{valueIn, wholeIn};
 ghost use Rattle.protocol.specs.Line.{wordsOf, wordsAt, nextPlace, placesFrom};
 ghost use Rattle.protocol.specs.Forms.{fits, firstWrong, judgedAs, judgedBy, parseOf};
@@ -31,17 +30,7 @@ pub struct Parsed {
     pub starts: [usize; 10],
 }
 
-// The word that starts at a place.
-pub fn word_at<'a>(line: &'a [u8], at: usize) -> &'a [u8]
-    ensures { λ r. ⌜ now r ≡ wordOf (drop at (now (line .entry))) ⌝ }
-{
-    if line.len() < at {
-        return &line[..0];
-    }
-    words::word(&line[at..])
-}
-
-// Where the word behind it starts; past the end where there is none.
+// Where the word behind the one at a place starts; past the end where there is none.
 fn next_place(line: &[u8], at: usize) -> usize
     requires { ⌜ length (now line) ≤ 16384 ⌝ }
     ensures { λ r. ⌜ r ≡ nextPlace (now (line .entry)) at ⌝ }
@@ -49,7 +38,7 @@ fn next_place(line: &[u8], at: usize) -> usize
     if line.len() < at {
         return at;
     }
-    let word = word_at(line, at);
+    let word = words::word_at(line, at);
     at + word.len() + 1
 }
 
@@ -97,7 +86,7 @@ fn first_wrong(line: &[u8], kinds: &[u8]) -> usize
         if line.len() < at {
             return k + 2;
         }
-        if !fits(kinds[k], word_at(line, at)) {
+        if !fits(kinds[k], words::word_at(line, at)) {
             return k + 2;
         }
         at = next_place(line, at);
@@ -129,8 +118,8 @@ fn judge(line: &[u8], forms: &[u8]) -> Judged
     let mut q: usize = 0;
     while at <= forms.len() {
         let kinds = next_place(forms, at);
-        if check::same(words::word(line), word_at(forms, at)) {
-            return judged_as(q, line, word_at(forms, kinds));
+        if check::same(words::word_at(line, 0), words::word_at(forms, at)) {
+            return judged_as(q, line, words::word_at(forms, kinds));
         }
         at = next_place(forms, kinds);
         q += 1;
@@ -182,7 +171,7 @@ fn parts(line: &[u8], start: usize, out: &mut [u8; 8]) -> usize
     let mut at = start;
     let mut i: usize = 0;
     while i < 8 {
-        put_part(&mut *out, i, words::small(word_at(line, at)));
+        put_part(&mut *out, i, words::small(words::word_at(line, at)));
         at = next_place(line, at);
         i += 1;
     }
@@ -196,7 +185,7 @@ fn numbers(line: &[u8], start: usize, out: &mut Numbers)
     let mut at = start;
     let mut i: usize = 0;
     while i < SLOTS {
-        put_number(&mut *out, i, words::whole(word_at(line, at)));
+        put_number(&mut *out, i, words::whole(words::word_at(line, at)));
         at = next_place(line, at);
         i += 1;
     }
@@ -220,9 +209,9 @@ fn record_in(line: &[u8], at: usize) -> Record
 {
     let mut chains = no_parts();
     let mut slots = no_numbers();
-    let cat = words::small(word_at(line, at));
+    let cat = words::small(words::word_at(line, at));
     let second = next_place(line, at);
-    let items = words::small(word_at(line, second));
+    let items = words::small(words::word_at(line, second));
     let third = next_place(line, second);
     let last = parts(line, third, &mut chains);
     numbers(line, last, &mut slots);

@@ -10,9 +10,9 @@ use Rattle.codec.specs.Pick.{pick}
 use Rattle.codec.specs.Codec.{Res, got, bad}
 use Rattle.codec.specs.Field.{flags, allZero}
 use Rattle.codec.specs.Frame.{Outcome, accepted, refused}
+use Rattle.papers.specs.Papers.{known, itemsOf}
 use Rattle.layout.specs.declared.Answer.{Answer}
 use Rattle.layout.specs.declared.Answer.the-variants.{Accepted, Refused}
-use Rattle.layout.specs.Papers.{known, itemsOf}
 use Rattle.layout.specs.Record.{allParts, allNumbers}
 use Rattle.shapes.specs.Spots.{spotOf}
 use Rattle.reader.specs.declared.lines.Step.{Step}

@@ -8,7 +8,7 @@ use Rattle.codec.specs.Codec.{Res}
 use Rattle.codec.specs.Line.{Held}
 use Rattle.reader.specs.Steps.{stepOf, afterOf}
 use Rattle.reader.specs.declared.lines.Step.{Step}
-use Rattle.layout.specs.Record.{SLOTS}
+use Rattle.papers.specs.Papers.{SLOTS}
 
 -- what a reading promises: the answer, and the slots afterwards
 pub record Stands (l : List ℤ) (slot : ℕ) (x : Res Held) (r : Step) (m : List ℤ) : Type 0 where

@@ -13,7 +13,7 @@ ghost use Rattle.codec.specs.Line.{Held};
 ghost use Rattle.codec.specs.Item.{slots};
 ghost use Rattle.codec.specs.Field.{flags, allZero};
 ghost use Rattle.codec.specs.Meaning.{lenOf};
-ghost use Rattle.layout.specs.Papers.{known};
+ghost use Rattle.papers.specs.Papers.{known};
 ghost use Rattle.scope.specs.Reading.{readOf};
 ghost use Rattle.lengths.specs.Lines.{lineAt, firstAt, countAt};
 ghost use Rattle.shapes.specs.Shapes.{itemAt, partsOk};
@@ -25,7 +25,7 @@ ghost use Rattle.reader.specs.Items.{HeldSoFar, more, itemRun};
 ghost use Rattle.reader.specs.Rows.{placeRun, rowFrom, RowStands};
 ghost use Rattle.reader.specs.Fields.{asAnswer, itemsIn, walkOf, WalkStands};
 ghost use Rattle.scope.specs.Survey.{surveyOf};
-ghost use Rattle.layout.specs.Record.{SLOTS};
+ghost use Rattle.papers.specs.Papers.{SLOTS};
 
 mod lines;
 
@@ -92,7 +92,7 @@ fn subfield(s: &[u8], a: Step, b: usize, base: usize, numbers: &mut Numbers) -> 
     };
     let f = flag_of(b);
     let z = numbers[base + f];
-    if layout::is_one(z) {
+    if flags::is_one(z) {
         let n = lines::line(s, at, b, base, &mut *numbers);
         let Step::Next(fx, next) = n else {
             return n;
@@ -228,7 +228,7 @@ fn row(
     let mut at: usize = 2;
     let mut i: usize = 0;
     while i < n {
-        let there = layout::present(ind, i);
+        let there = flags::present(ind, i);
         let a = place(s, at, first + i, there, &mut *numbers);
         let Step::Next(p, next) = a else {
             return a;

@@ -12,7 +12,7 @@ ghost use Rattle.codec.specs.Line.{toNum, limit, inLimits};
 ghost use Rattle.lengths.specs.Lines.{firstAt, countAt, kindOf, piecesFrom, narrow};
 ghost use Rattle.reader.specs.Numbers.{inside, numsAt, Took};
 ghost use Rattle.reader.specs.Steps.{stepOf, afterOf, lineRun};
-ghost use Rattle.layout.specs.Record.{SLOTS};
+ghost use Rattle.papers.specs.Papers.{SLOTS};
 use layout::Numbers;
 
 // How far reading came: FX of a part or the parts of a chain, and the next place; or a refusal and its place.

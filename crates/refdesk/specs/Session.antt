@@ -6,8 +6,8 @@ use lib.ListN.{take}
 use Rattle.codec.specs.Field.{flat}
 use Rattle.lines.specs.Lines.{ended, left, last, linesOf}
 use Rattle.lines.specs.Laws.Lines.{Holds, reads-end, reads-left}
-use Rattle.requests.specs.Requests.{answerOf}
-use Rattle.requests.specs.Laws.Room.{answer-front}
+use Rattle.answers.specs.Answers.{answerOf}
+use Rattle.answers.specs.Laws.Room.{answer-front}
 
 -- the answers to lines, one behind the other
 abbrev pub answers : List (List ℕ) → List ℕ

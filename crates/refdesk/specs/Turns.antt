@@ -1,5 +1,5 @@
 -- What is held of the input between two reads, and the laws of the loop over the octets of a read.
-use mathlib.Core.Path.{_≡_, refl, sym, ap, _∙_}
+use mathlib.Core.Path.{_≡_, sym, ap, _∙_}
 use mathlib.Core.Bool.{Bool, true, false}
 use mathlib.Core.List.{List, []}
 use Prim.Native.Nat.{ℕ, _+_, _-_, _≤_, _<_}
@@ -8,7 +8,7 @@ use lib.ListN.{length, drop, length-drop, drop-of-length-le}
 use lib.Seq.{drop-drop}
 use Rattle.lines.specs.Lines.{left}
 use Rattle.lines.specs.Joining.{joinOf, lineAfter, Joins}
-use Rattle.lines.specs.Laws.Lines.{Holds, holds-none, Ends, GoesOn, join-ends, join-goes-on, place-further}
+use Rattle.lines.specs.Laws.Lines.{Holds, holds-none, join-ends, join-goes-on, place-further}
 use Rattle.lines.specs.declared.Joined.{Joined}
 
 -- taking in the octets of a read: the array that held a line then holds what is left behind those octets, unless the program ends

@@ -1,3 +1,2 @@
--- What follows from the definitions, for the proofs of the functions and for the handlers of requests.
+-- What follows from the definitions, for the proofs of the functions.
 pub mod Typed
-pub mod Room

@@ -6,6 +6,7 @@ use lib.IntN.{ℤ}
 use lib.ListN.{length, take}
 use Rattle.codec.specs.Pick.{pick}
 use Rattle.codec.specs.Frame.{Outcome, accepted, refused}
+use Rattle.papers.specs.Names.{text}
 use Rattle.layout.specs.declared.Answer.{Answer}
 use Rattle.layout.specs.declared.Answer.the-variants.{Accepted, Refused}
 use Rattle.layout.specs.declared.View.{View}
@@ -14,10 +15,9 @@ use Rattle.layout.specs.declared.Choice.{Choice}
 use Rattle.layout.specs.declared.Reading.{Reading}
 use Rattle.layout.specs.declared.Record.{Record}
 use Rattle.layout.specs.Answer.{whichNumber}
-use Rattle.layout.specs.Names.{text}
 use Rattle.scope.specs.Sheet.{decimal, signedDecimal}
 use Rattle.text.specs.Hex.{hexText}
-use Rattle.layout.specs.Record.{SLOTS}
+use Rattle.papers.specs.Papers.{SLOTS}
 
 -- a number behind a space; 32 is the space
 unfoldable pub next : ℕ → List ℕ

@@ -1,7 +1,7 @@
 // The answers of the co-process in words: what each operation answered is typed into a buffer, `ok` and what was asked for, or `refused`, number and place.
 // Promises: every octet of the text. Stands on text.
 ghost use mathlib.Core.Path.{_≡_};
-ghost use Rattle.layout.specs.Names.{text};
+ghost use Rattle.papers.specs.Names.{text};
 ghost use Rattle.text.specs.Typing.{Types};
 ghost use Rattle.replies.specs.Texts.{next, nextSigned, nextOctets, badRequest, refusalText, leftText, shownText, viewText, choiceText, wordsText, recordText, readingText, inLine, lineOctet, sheetText};
 use layout::Answer;

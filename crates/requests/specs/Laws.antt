@@ -1,3 +1,2 @@
--- What follows from the definitions, for the proofs of the functions and for those who write the answer.
+-- What follows from the definition of the answer, for the proofs of the functions.
 pub mod Requests
-pub mod Room

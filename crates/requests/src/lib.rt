@@ -13,7 +13,7 @@ ghost use Rattle.scope.specs.Views.{viewOf, chooseOf};
 ghost use Rattle.scope.specs.Writing.{writeOf};
 ghost use Rattle.text.specs.Typing.{Types};
 ghost use Rattle.replies.specs.Texts.{outputText};
-ghost use Rattle.requests.specs.Requests.{viewed, chosen, listed, readAnswer, writeAnswer, sheetAnswer, viewAnswer, chooseAnswer, removeAnswer, replaceAnswer, asked, answerOf};
+ghost use Rattle.answers.specs.Answers.{viewed, chosen, listed, readAnswer, writeAnswer, sheetAnswer, viewAnswer, chooseAnswer, removeAnswer, replaceAnswer, asked, answerOf};
 ghost use Rattle.requests.specs.Laws.Requests.{wordIn, wordsFrom};
 use layout::Answer;
 use layout::Record;
@@ -106,7 +106,7 @@ fn word<'a>(line: &'a [u8], starts: &[usize; 10], k: usize) -> &'a [u8]
     requires { ⌜ k < 10 ⌝ }
     ensures { λ r. ⌜ now r ≡ wordIn (now (line .entry)) (now (starts .entry)) k ⌝ }
 {
-    protocol::word_at(line, starts[k])
+    words::word_at(line, starts[k])
 }
 
 fn read(line: &[u8], starts: &[usize; 10], buf: &mut [u8; 4096]) -> usize

@@ -9,8 +9,8 @@ use Rattle.codec.specs.Item.{Item}
 use Rattle.codec.specs.Field.{flags, Contents, body}
 use Rattle.codec.specs.Frame.{Outcome, accepted, refused, writeFrame}
 use Rattle.codec.specs.Change.{Change, change}
+use Rattle.papers.specs.Papers.{paperOf}
 use Rattle.layout.specs.declared.Answer.{Answer}
-use Rattle.layout.specs.Papers.{paperOf}
 use Rattle.scope.specs.Reading.{fieldOf}
 use Rattle.scope.specs.Outputs.{withRoom, Leaves}
 use Rattle.scope.specs.Views.{isItem}

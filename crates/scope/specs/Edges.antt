@@ -14,6 +14,8 @@ use Rattle.codec.specs.Field.{isNil, isCons, uncons, firstFlag, nextFlags, row,
 use Rattle.codec.specs.Frame.{Outcome, accepted, refused, settle, readFrame, writeFrame, okayFrame}
 use Rattle.codec.specs.Meaning.{lenOf}
 use Rattle.codec.specs.Change.{Change, remove, put, setFlag, setItem, blankAt, alone, putIn, change}
+use Rattle.papers.specs.Cat048.{cat048}
+use Rattle.papers.specs.Papers.{known, paperOf, SLOTS, allSlots}
 use Rattle.layout.specs.declared.Record.{Record}
 use Rattle.layout.specs.declared.Reading.{Reading}
 use Rattle.layout.specs.declared.View.{View}
@@ -21,9 +23,7 @@ use Rattle.layout.specs.declared.View.the-variants.{Shown, Hidden}
 use Rattle.layout.specs.declared.Which.{Which}
 use Rattle.layout.specs.declared.Which.the-variants.{Neither, Base, Correction}
 use Rattle.layout.specs.declared.Answer.the-variants.{Accepted, Refused}
-use Rattle.layout.specs.Cat048.{cat048}
-use Rattle.layout.specs.Papers.{known, paperOf}
-use Rattle.layout.specs.Record.{SLOTS, allParts, allNumbers, allSlots, flatten, regroup, unflatten, noParts, fitsPaper, contents}
+use Rattle.layout.specs.Record.{allParts, allNumbers, flatten, regroup, unflatten, noParts, fitsPaper, contents}
 use Rattle.scope.specs.Reading.{fieldOf, noRecord, shown, readOf}
 use Rattle.scope.specs.Writing.{writable, written, writeOf}
 use Rattle.scope.specs.Outputs.{withRoom}

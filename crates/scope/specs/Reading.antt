@@ -7,11 +7,11 @@ use Rattle.codec.specs.Pick.{pick}
 use Rattle.codec.specs.Field.{Contents, body}
 use Rattle.codec.specs.Frame.{Outcome, accepted, refused, readFrame}
 use Rattle.codec.specs.Meaning.{lenOf}
+use Rattle.papers.specs.Papers.{known, paperOf, SLOTS}
 use Rattle.layout.specs.declared.Record.{Record}
 use Rattle.layout.specs.declared.Reading.{Reading}
 use Rattle.layout.specs.declared.Answer.the-variants.{Accepted, Refused}
-use Rattle.layout.specs.Papers.{known, paperOf}
-use Rattle.layout.specs.Record.{SLOTS, flatten}
+use Rattle.layout.specs.Record.{flatten}
 
 -- what a field of a category holds, or the reader's refusal: every operation on a field begins with this
 unfoldable pub fieldOf : ℕ → List ℕ → Outcome Contents

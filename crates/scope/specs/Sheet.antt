@@ -11,9 +11,9 @@ use Rattle.codec.specs.Item.{Item, chained, single, flagged, linesOf}
 use Rattle.codec.specs.Field.{firstFlag, nextFlags, uncons, flags, Contents}
 use Rattle.codec.specs.Frame.{Outcome, accepted, refused}
 use Rattle.codec.specs.Meaning.{lenOf}
+use Rattle.papers.specs.Names.{text, Key, hidden, shown, angle, pressure, Named, namesOf}
+use Rattle.papers.specs.Papers.{paperOf}
 use Rattle.layout.specs.declared.Answer.{Answer}
-use Rattle.layout.specs.Names.{text, Key, hidden, shown, angle, pressure, Named, namesOf}
-use Rattle.layout.specs.Papers.{paperOf}
 use Rattle.scope.specs.Angle.{udegOf}
 use Rattle.scope.specs.Reading.{fieldOf}
 use Rattle.scope.specs.Outputs.{withRoom, Leaves}

@@ -11,11 +11,11 @@ use Rattle.codec.specs.Item.{slots, slotsOf, linesOf, beside, chain, isOne, sub
 use Rattle.codec.specs.Field.{firstFlag, nextFlags, uncons, row, allZero, indicator, body}
 use Rattle.codec.specs.Meaning.{lenOf}
 use Rattle.codec.specs.Frame.{settle, readFrame}
-use Rattle.layout.specs.Cat048.{cat048}
-use Rattle.layout.specs.Cat021.{cat021}
-use Rattle.layout.specs.Cat007.{cat007}
-use Rattle.layout.specs.Names.{text, names048, names021, names007, namesOf}
-use Rattle.layout.specs.Papers.{known, paperOf}
+use Rattle.papers.specs.Cat048.{cat048}
+use Rattle.papers.specs.Cat021.{cat021}
+use Rattle.papers.specs.Cat007.{cat007}
+use Rattle.papers.specs.Names.{text, names048, names021, names007, namesOf}
+use Rattle.papers.specs.Papers.{known, paperOf}
 use Rattle.scope.specs.Angle.{rounded, udegOf}
 use Rattle.scope.specs.Reading.{fieldOf}
 use Rattle.scope.specs.Sheet as sheet

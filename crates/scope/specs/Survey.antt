@@ -5,9 +5,9 @@ use lib.ListN.{length, replicate}
 use Rattle.codec.specs.Field.{Contents, textsOf}
 use Rattle.codec.specs.Frame.{Outcome, accepted, refused}
 use Rattle.codec.specs.Meaning.{lenOf}
+use Rattle.papers.specs.Papers.{paperOf, itemsOf}
 use Rattle.layout.specs.declared.Answer.the-variants.{Accepted, Refused}
 use Rattle.layout.specs.declared.Surveyed.{Surveyed}
-use Rattle.layout.specs.Papers.{paperOf, itemsOf}
 use Rattle.scope.specs.Reading.{fieldOf}
 
 -- texts behind each other from a place on: where each begins, and where the last ends

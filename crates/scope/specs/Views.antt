@@ -8,12 +8,12 @@ use Rattle.codec.specs.Pick.{pick}
 use Rattle.codec.specs.Item.{Item}
 use Rattle.codec.specs.Field.{flags, Contents, body, textsOf, before}
 use Rattle.codec.specs.Frame.{Outcome, accepted, refused, readFrame}
+use Rattle.papers.specs.Papers.{known, paperOf}
 use Rattle.layout.specs.declared.View.{View}
 use Rattle.layout.specs.declared.View.the-variants.{Shown, Hidden}
 use Rattle.layout.specs.declared.Which.{Which}
 use Rattle.layout.specs.declared.Which.the-variants.{Neither, Base, Correction}
 use Rattle.layout.specs.declared.Choice.{Choice}
-use Rattle.layout.specs.Papers.{known, paperOf}
 use Rattle.scope.specs.Reading.{fieldOf}
 
 -- "The item number is 1 for bit 8 up to 8 for bit 1"

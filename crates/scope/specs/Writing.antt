@@ -5,9 +5,9 @@ use Prim.Native.Nat.{ℕ}
 use lib.ListN.{length}
 use Rattle.codec.specs.Pick.{pick}
 use Rattle.codec.specs.Frame.{Outcome, refused, writeFrame, okayFrame}
+use Rattle.papers.specs.Papers.{known}
 use Rattle.layout.specs.declared.Record.{Record}
 use Rattle.layout.specs.declared.Answer.{Answer}
-use Rattle.layout.specs.Papers.{known}
 use Rattle.layout.specs.Record.{contents}
 use Rattle.scope.specs.Outputs.{withRoom, Leaves}
 

@@ -8,7 +8,8 @@ use lib.ListN.{getD, take, drop}
 use Rattle.codec.specs.Pick.{pick}
 use Rattle.codec.specs.Line.{Held}
 use Rattle.codec.specs.Item.{Item, slots}
-use Rattle.layout.specs.Record.{SLOTS, regroup}
+use Rattle.papers.specs.Papers.{SLOTS}
+use Rattle.layout.specs.Record.{regroup}
 use Rattle.shapes.specs.declared.Spot.{Spot}
 use Rattle.shapes.specs.Shapes.{itemAt}
 

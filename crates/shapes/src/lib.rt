@@ -1,6 +1,6 @@
 // The constant tables of shapes and spots: the lines of each item that some paper has, and where each category keeps its items.
 // Promises: `shape_at`, `spot_at` and `spot_of` say what the papers' data say; past the tables stand an item of one empty line and the first spot.
-// Stands on layout, and on lengths for the numbers of the lines.
+// Stands on papers, and on lengths for the numbers of the lines.
 ghost use mathlib.Core.Path.{_≡_};
 ghost use Prim.Native.Nat.{_<_};
 ghost use Rattle.codec.specs.Laws.Arms.{Past};

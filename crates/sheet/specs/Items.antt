@@ -5,7 +5,7 @@ use Prim.Native.Nat.{ℕ, _+_}
 use lib.IntN.{ℤ}
 use lib.ListN.{length, getD, take}
 use Rattle.codec.specs.Item.{slots}
-use Rattle.layout.specs.Names.{Named, names048, names021, names007}
+use Rattle.papers.specs.Names.{Named, names048, names021, names007}
 use Rattle.layout.specs.Laws.Slots.{Holds}
 use Rattle.scope.specs.Sheet.{itemText}
 use Rattle.shapes.specs.Shapes.{itemAt}

@@ -6,7 +6,7 @@ use Prim.Native.Nat.{ℕ, suc, _+_}
 use lib.Dec.{ltb, eqb}
 use lib.IntN.{ℤ}
 use Rattle.codec.specs.Pick.{pick}
-use Rattle.layout.specs.Names.{text, Key, hidden, shown, angle, pressure}
+use Rattle.papers.specs.Names.{text, Key, hidden, shown, angle, pressure}
 use Rattle.layout.specs.Record.{numberAt}
 use Rattle.scope.specs.Sheet.{numberText}
 

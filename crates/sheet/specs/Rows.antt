@@ -4,7 +4,7 @@ use mathlib.Core.List.{List, [], _∷_}
 use Prim.Native.Nat.{ℕ, zero, suc, _+_}
 use lib.IntN.{ℤ}
 use Rattle.codec.specs.Pick.{pick}
-use Rattle.layout.specs.Names.{text, Named}
+use Rattle.papers.specs.Names.{text, Named}
 use Rattle.scope.specs.Sheet.{itemText}
 use Rattle.shapes.specs.Spots.{spotAt, itemOn, numbersOn}
 use Rattle.sheet.specs.Items.{namedAt}

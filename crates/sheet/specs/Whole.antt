@@ -2,9 +2,9 @@
 use mathlib.Core.List.{List, [], _++_}
 use Prim.Native.Nat.{ℕ, _+_}
 use Rattle.codec.specs.Field.{flags}
+use Rattle.papers.specs.Names.{text, namesOf}
+use Rattle.papers.specs.Papers.{paperOf}
 use Rattle.layout.specs.declared.Record.{Record}
-use Rattle.layout.specs.Names.{text, namesOf}
-use Rattle.layout.specs.Papers.{paperOf}
 use Rattle.layout.specs.Record.{regroup}
 use Rattle.scope.specs.Sheet.{decimal, keyLine, rowText, itemsText}
 

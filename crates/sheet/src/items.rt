@@ -33,7 +33,7 @@ fn is_there(numbers: &Numbers, count: usize, b: usize, parts: usize, base: usize
 {
     if parts == 0 {
         let format = lengths::format_of(b);
-        return layout::is_one(layout::number_at(numbers, base + format.flag));
+        return flags::is_one(layout::number_at(numbers, base + format.flag));
     }
     0 < count
 }

@@ -1,6 +1,6 @@
 // The sheet of an input, a category octet and a field: what the maker and the buyer's engineer read.
 // Promises: every octet of the text, its length and the rest of the output; 11 where the output is short.
-// Stands on reader for the record, on text for words and decimals, on angle, and on writer for its `deliver` alone.
+// Stands on reader for the record, on text for words and decimals, on angle, and on outputs.
 ghost use mathlib.Core.Path.{_≡_};
 ghost use mathlib.Core.Bool.{true};
 ghost use mathlib.Core.List.{_∷_};
@@ -8,15 +8,15 @@ ghost use Prim.Native.Nat.{_+_, _≤_};
 ghost use lib.Dec.{T};
 ghost use lib.ListN.{length, drop};
 ghost use Rattle.codec.specs.Field.{flags};
-ghost use Rattle.layout.specs.Names.{text};
-ghost use Rattle.layout.specs.Papers.{known};
+ghost use Rattle.papers.specs.Names.{text};
+ghost use Rattle.papers.specs.Papers.{known};
 ghost use Rattle.scope.specs.Sheet.{decimal, keyLine, rowText, itemsText, refusalText, sheetOf, Listed};
 ghost use Rattle.shapes.specs.Spots.{spotOk, rowOk, itemsFrom, heldFrom};
 ghost use Rattle.text.specs.Typing.{Types};
 ghost use Rattle.sheet.specs.Items.{namedAt};
 ghost use Rattle.sheet.specs.Rows.{namesFrom, placeText, commaOf};
 ghost use Rattle.sheet.specs.Whole.{recordText};
-ghost use Rattle.layout.specs.Record.{SLOTS};
+ghost use Rattle.papers.specs.Papers.{SLOTS};
 
 mod items;
 mod numbers;
@@ -68,7 +68,7 @@ fn row(
     if left == 0 {
         return at;
     }
-    let there = layout::present(items, i);
+    let there = flags::present(items, i);
     let next = place(there, parts[i], numbers, k, at, &mut *buf);
     row(
         items,
@@ -131,7 +131,7 @@ fn names(
     if left == 0 {
         return at;
     }
-    if layout::present(items, i) {
+    if flags::present(items, i) {
         let behind = comma(first, at, &mut *buf);
         let spot = shapes::spot_at(k);
         let next = name(leaves::wide(spot.0), behind, &mut *buf);
@@ -204,5 +204,5 @@ pub fn sheet(input: &[u8], out: &mut [u8]) -> Answer
 {
     let mut buf = [0u8; 4096];
     let end = typed(input, &mut buf);
-    writer::deliver(&buf[..end], &mut *out)
+    outputs::deliver(&buf[..end], &mut *out)
 }

@@ -5,11 +5,11 @@ use lib.Dec.{eqb}
 use lib.ListN.{getD}
 use Rattle.codec.specs.Pick.{pick}
 use Rattle.codec.specs.Field.{flags}
+use Rattle.papers.specs.Papers.{paperOf, itemsOf}
 use Rattle.layout.specs.declared.Answer.{Answer}
 use Rattle.layout.specs.declared.Answer.the-variants.{Accepted, Refused}
 use Rattle.layout.specs.declared.View.{View}
 use Rattle.layout.specs.declared.View.the-variants.{Shown, Hidden}
-use Rattle.layout.specs.Papers.{paperOf, itemsOf}
 use Rattle.scope.specs.Views.{isItem}
 
 -- the items of a category begin one after the other

@@ -21,7 +21,7 @@ fn standing(cat: u8, items: u8, starts: [usize; 9], item: u8) -> View
 {
     if layout::is_item(cat, item) {
         let i = leaves::wide(item);
-        if layout::present(items, i - 1) {
+        if flags::present(items, i - 1) {
             let from = starts[i - 1];
             let to = starts[i];
             return View::Shown(from, to - from);

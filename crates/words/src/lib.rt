@@ -1,5 +1,5 @@
 // The words of a line and the numbers that they write: one space stands between two words, numbers are plain decimals.
-// Promises: for every line its first word; for every word the number that it writes, and whether it writes one; the number taken is the number written.
+// Promises: for every line the word that starts at a place; for every word the number that it writes, and whether it writes one; the number taken is the number written.
 // Stands on text, which says what a decimal means.
 ghost use mathlib.Core.Path.{_≡_};
 ghost use Prim.Native.Nat.{_+_, _-_, _*_, _<_, _≤_};
@@ -24,12 +24,15 @@ fn end(line: &[u8], at: usize) -> usize
     i
 }
 
-// The word in front of a line.
-pub fn word<'a>(line: &'a [u8]) -> &'a [u8]
-    ensures { λ r. ⌜ now r ≡ wordOf (now (line .entry)) ⌝ }
+// The word that starts at a place; none past the end.
+pub fn word_at<'a>(line: &'a [u8], at: usize) -> &'a [u8]
+    ensures { λ r. ⌜ now r ≡ wordOf (drop at (now (line .entry))) ⌝ }
 {
-    let stop = end(line, 0);
-    &line[..stop]
+    if line.len() < at {
+        return &line[..0];
+    }
+    let stop = end(line, at);
+    &line[at..stop]
 }
 
 // ---- numbers

@@ -5,7 +5,7 @@ use lib.Dec.{T}
 use lib.ListN.{length}
 use Rattle.codec.specs.Codec.{Codec}
 use Rattle.codec.specs.Laws.Sets.{Put}
-use Rattle.layout.specs.Papers.{LONGEST}
+use Rattle.papers.specs.Papers.{LONGEST}
 
 -- what laying a value promises: where the codec can write it and there is room, its octets are put
 pub record Lays {A : Type 0} (c : Codec A) (v : A) (l : List ℕ) (at : ℕ) (m : List ℕ) (next : ℕ) : Type 0 where

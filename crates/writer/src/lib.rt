@@ -4,7 +4,7 @@
 ghost use mathlib.Core.Path.{_≡_};
 ghost use mathlib.Core.Bool.{true};
 ghost use mathlib.Core.List.{List};
-ghost use Prim.Native.Nat.{_+_, _%_, _≤_};
+ghost use Prim.Native.Nat.{_+_, _≤_};
 ghost use lib.Dec.{T, ltb};
 ghost use lib.IntN.{ℤ};
 ghost use lib.ListN.{length, drop};
@@ -12,12 +12,11 @@ ghost use Rattle.codec.specs.Codec.{opt};
 ghost use Rattle.codec.specs.Line.{line};
 ghost use Rattle.codec.specs.Item.{nothing, flagged, chain, subfields, item};
 ghost use Rattle.codec.specs.Field.{flags, row};
-ghost use Rattle.layout.specs.Papers.{known};
+ghost use Rattle.papers.specs.Papers.{known};
 ghost use Rattle.layout.specs.Laws.Slots.{Holds};
 ghost use Rattle.lengths.specs.Lines.{lineAt, firstAt, countAt};
 ghost use Rattle.shapes.specs.Shapes.{itemAt, linesFrom, flagsUnder, inTurn};
 ghost use Rattle.shapes.specs.Spots.{spotOk, rowOk, itemsFrom, numbersOn, heldFrom};
-ghost use Rattle.scope.specs.Outputs.{withRoom, Leaves};
 ghost use Rattle.scope.specs.Writing.{Wrote};
 ghost use Rattle.writer.specs.Laying.{Lays};
 ghost use Rattle.writer.specs.Chains.{goesOn};
@@ -25,7 +24,7 @@ ghost use Rattle.writer.specs.Rows.{placeOn};
 ghost use Rattle.writer.specs.Same.{Tells};
 ghost use Rattle.writer.specs.Checked.{Checked, ReadBack};
 ghost use Rattle.writer.specs.Frames.{made, Laid};
-ghost use Rattle.layout.specs.Papers.{LONGEST};
+ghost use Rattle.papers.specs.Papers.{LONGEST};
 
 mod lines;
 
@@ -80,7 +79,7 @@ fn subfield(numbers: &Numbers, b: usize, base: usize, at: usize, octets: &mut Fi
 {
     let format = lengths::format_of(b);
     let z = layout::number_at(numbers, base + format.flag);
-    if layout::is_one(z) {
+    if flags::is_one(z) {
         return lines::line(numbers, b, base, 0, at, &mut *octets);
     }
     at
@@ -163,7 +162,7 @@ fn row(
     if left == 0 {
         return at;
     }
-    let there = layout::present(items, i);
+    let there = flags::present(items, i);
     let next = place(there, parts[i], numbers, k, at, &mut *octets);
     row(
         items,
@@ -247,16 +246,6 @@ fn checked(kept: Record, octets: &mut Field) -> Answer
     reads_back(kept, &octets[..])
 }
 
-// Octets into the front of an output, or 11: the last step of every operation that writes a field.
-pub fn deliver(octets: &[u8], out: &mut [u8]) -> Answer
-    ensures { λ r. ⌜ Leaves (withRoom (length (now (out .entry))) (now (octets .entry))) (now (out .entry)) r (now (out .exit)) ⌝ }
-{
-    if octets.len() <= out.len() {
-        return Answer::Accepted(bytes::copy(octets, &mut *out));
-    }
-    Answer::Refused(11, 0)
-}
-
 // A record as a field of its category: 1, 10, 11.
 pub fn write(kept: Record, out: &mut [u8]) -> Answer
     ensures { λ r. ⌜ Wrote kept (now (out .entry)) r (now (out .exit)) ⌝ }
@@ -267,7 +256,7 @@ pub fn write(kept: Record, out: &mut [u8]) -> Answer
         let Answer::Accepted(n) = a else {
             return a;
         };
-        return deliver(&octets[..n], &mut *out);
+        return outputs::deliver(&octets[..n], &mut *out);
     }
     Answer::Refused(1, 0)
 }

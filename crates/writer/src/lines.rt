@@ -12,7 +12,7 @@ ghost use Rattle.lengths.specs.Lines.{lineAt, firstAt, piecesFrom};
 ghost use Rattle.layout.specs.Laws.Slots.{Holds};
 ghost use Rattle.writer.specs.Digits.{lowBits, gathered};
 ghost use Rattle.writer.specs.Laying.{Lays};
-ghost use Rattle.layout.specs.Papers.{LONGEST};
+ghost use Rattle.papers.specs.Papers.{LONGEST};
 use layout::Field;
 use layout::LONGEST;
 use layout::Numbers;

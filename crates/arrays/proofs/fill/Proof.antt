@@ -10,7 +10,7 @@ use mir.Val.{toZ, ofZ}
 use mir.Facts.{toZ-ofZ}
 use Rattle.interface.specs.Arrays.{PLACES, arrayOf}
 use Rattle.interface.specs.Laws.Arrays.{begun, midway, finished, begun-length, parts-room, midway-length, numbers-room, array-made, array-places}
-use Rattle.layout.specs.Record.{SLOTS}
+use Rattle.papers.specs.Papers.{SLOTS}
 use Rattle.arrays.proofs.fill.Statement.{statement}
 use Rattle.arrays.proofs.fill.Tie as tie
 

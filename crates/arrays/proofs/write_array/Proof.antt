@@ -6,7 +6,7 @@ use denote.Ref.{now}
 use lib.IntN.{pos}
 use lib.ListN.{getD}
 use mir.Facts.{toZ-ofZ}
-use Rattle.layout.specs.Papers.{known}
+use Rattle.papers.specs.Papers.{known}
 use Rattle.interface.specs.Arrays.{octetOf}
 use Rattle.interface.specs.Laws.Arrays.{array-length, array-unknown, array-parts, array-written}
 use Rattle.arrays.proofs.write_array.Statement.{statement}

@@ -17,6 +17,9 @@ use Rattle.codec.specs.Laws.Radix.{join-lt, cut-join, join-cut, cut-digi
 
 -- ---- octets
 
+pub octets-cons : (x : ℕ) (xs : List ℕ) → x < 256 → Octets xs → Octets (x ∷ xs)
+octets-cons x xs h p = and-in (ltb x 256) (areBytes xs) (lt→ltb x 256 h) p
+
 pub octets-++ : (xs ys : List ℕ) → Octets xs → Octets ys → Octets (xs ++ ys)
 octets-++ [] ys p q = q
 octets-++ (x ∷ xs) ys p q = and-in (ltb x 256) (areBytes (xs ++ ys)) (and-l (ltb x 256) _ p) (octets-++ xs ys (and-r (ltb x 256) _ p) q)

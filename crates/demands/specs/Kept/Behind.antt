@@ -13,12 +13,12 @@ use Rattle.codec.specs.Frame.{Outcome, accepted, refused}
 use Rattle.codec.specs.Meaning.{lenOf}
 use Rattle.codec.specs.Change.{Change}
 use Rattle.codec.specs.Laws.Behind.{Whole, len-front, behind-read}
+use Rattle.papers.specs.Names.{text, namesOf}
+use Rattle.papers.specs.Papers.{known, paperOf}
 use Rattle.layout.specs.declared.View.{View}
 use Rattle.layout.specs.declared.View.the-variants.{Shown, Hidden}
 use Rattle.layout.specs.declared.Which.the-variants.{Neither}
 use Rattle.layout.specs.declared.Answer.the-variants.{Accepted}
-use Rattle.layout.specs.Names.{text, namesOf}
-use Rattle.layout.specs.Papers.{known, paperOf}
 use Rattle.layout.specs.Record.{flatten}
 use Rattle.scope.specs.Reading.{fieldOf, shown, readOf}
 use Rattle.scope.specs.Views.{viewIn, viewOf, partOf, chooseIn, chooseOf}

@@ -27,12 +27,12 @@ use Rattle.codec.specs.Laws.Alone.{someOctets, entry-in, removed, putted, flag-
 use Rattle.codec.specs.Laws.Meaning.{length-items}
 use Rattle.codec.specs.Laws.Meaning as layout
 use Rattle.codec.specs.Laws.Change.{newOctets, newFlag, put-in}
+use Rattle.papers.specs.Papers.{LONGEST, known, paperOf, printedOf, itemsOf}
+use Rattle.papers.specs.Laws.Papers.{made-paper, right-paper, good-paper, few-printed, few-items, few-octets, some-octets}
 use Rattle.layout.specs.declared.Record.{Record}
 use Rattle.layout.specs.declared.Reading.{Reading}
 use Rattle.layout.specs.declared.Answer.the-variants.{Accepted}
-use Rattle.layout.specs.Papers.{LONGEST, known, paperOf, printedOf, itemsOf}
 use Rattle.layout.specs.Record.{flatten}
-use Rattle.layout.specs.Laws.Papers.{made-paper, right-paper, good-paper, few-printed, few-items, few-octets, some-octets}
 use Rattle.scope.specs.Reading.{fieldOf, readOf}
 use Rattle.scope.specs.Writing.{writable, written, writeOf}
 use Rattle.scope.specs.Outputs.{withRoom, answerOf, after}

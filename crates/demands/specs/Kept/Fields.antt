@@ -19,14 +19,14 @@ use Rattle.codec.specs.Laws.Field.{lawful-body, row-okay}
 use Rattle.codec.specs.Laws.Frame.{refused≢accepted, accepted-front, frame-octets}
 use Rattle.codec.specs.Laws.Meaning.{field-is, is-field}
 use Rattle.codec.specs.Laws.Faults.{field-faulty, faulty-field, fault-number}
+use Rattle.papers.specs.Cat048.{MD5, M5N, M4E, RPC, ERR, printed048}
+use Rattle.papers.specs.Notation.{bits, part}
+use Rattle.papers.specs.Papers.{known, paperOf, printedOf, SLOTS, allSlots}
+use Rattle.papers.specs.Laws.Papers.{good-paper, made-paper, right-paper, few-printed}
 use Rattle.layout.specs.declared.Record.{Record}
 use Rattle.layout.specs.declared.Reading.{Reading}
 use Rattle.layout.specs.declared.Answer.the-variants.{Accepted}
-use Rattle.layout.specs.Cat048.{MD5, M5N, M4E, RPC, ERR, printed048}
-use Rattle.layout.specs.Notation.{bits, part}
-use Rattle.layout.specs.Papers.{known, paperOf, printedOf}
-use Rattle.layout.specs.Record.{SLOTS, allParts, allNumbers, allSlots, flatten}
-use Rattle.layout.specs.Laws.Papers.{good-paper, made-paper, right-paper, few-printed}
+use Rattle.layout.specs.Record.{allParts, allNumbers, flatten}
 use Rattle.layout.specs.Laws.Record.{length-parts, length-numbers, lawful-contents}
 use Rattle.scope.specs.Reading.{fieldOf, readOf}
 use Rattle.scope.specs.Writing.{writable, written}

@@ -13,7 +13,7 @@ use Rattle.codec.specs.Laws.Tests.{and-in, and-l, and-r}
 use Rattle.codec.specs.Laws.Field.{length-texts}
 use Rattle.codec.specs.Laws.View.{before-most, front-flat}
 use Rattle.codec.specs.Laws.Change.{flat-set}
-use Rattle.layout.specs.Papers.{paperOf, itemsOf}
+use Rattle.papers.specs.Papers.{paperOf, itemsOf}
 use Rattle.scope.specs.Views.{isItem}
 use Rattle.scope.specs.Laws.Reading.{Read, read-front}
 use Rattle.scope.specs.Laws.Views.{field-is, part-is-text}

@@ -9,9 +9,9 @@ use borrow.Author.Tests.{le-leb}
 use Rattle.codec.specs.Codec.{Octets}
 use Rattle.codec.specs.Frame.{accepted}
 use Rattle.codec.specs.Meaning.{lenOf}
+use Rattle.papers.specs.Papers.{known, paperOf, itemsOf}
 use Rattle.layout.specs.declared.Record.{Record}
 use Rattle.layout.specs.declared.View.the-variants.{Shown}
-use Rattle.layout.specs.Papers.{known, paperOf, itemsOf}
 use Rattle.scope.specs.Outputs.{withRoom, answerOf, after}
 use Rattle.scope.specs.Writing.{writable, written, writeOf}
 use Rattle.scope.specs.Views.{isItem, standing, viewOf, partOf, sideOf, chosenOf}

@@ -19,12 +19,12 @@ use Rattle.codec.specs.Laws.Alone.{flag-printed}
 use Rattle.codec.specs.Laws.Change.{setFlag-lt, newOctets}
 use Rattle.codec.specs.Laws.Field.{indicator-lt}
 use Rattle.codec.specs.Laws.Frame.{frame-octets}
+use Rattle.papers.specs.Papers.{known, paperOf, itemsOf}
+use Rattle.papers.specs.Laws.Papers.{few-items}
 use Rattle.layout.specs.declared.Record.{Record}
 use Rattle.layout.specs.declared.Answer.the-variants.{Refused}
 use Rattle.layout.specs.declared.View.the-variants.{Hidden}
 use Rattle.layout.specs.declared.Which.{Which}
-use Rattle.layout.specs.Papers.{known, paperOf, itemsOf}
-use Rattle.layout.specs.Laws.Papers.{few-items}
 use Rattle.layout.specs.Laws.Record.{lawful-contents}
 use Rattle.scope.specs.Reading.{fieldOf, shown, readOf}
 use Rattle.scope.specs.Outputs.{withRoom, answerOf, after}

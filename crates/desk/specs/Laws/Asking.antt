@@ -11,7 +11,7 @@ use Rattle.codec.specs.Pick.{pick}
 use Rattle.codec.specs.Field.{flags, Contents}
 use Rattle.codec.specs.Frame.{Outcome, accepted, refused}
 use Rattle.codec.specs.Change.{alone}
-use Rattle.layout.specs.Papers.{paperOf, numbered}
+use Rattle.papers.specs.Papers.{paperOf, numbered}
 use Rattle.scope.specs.Reading.{fieldOf}
 use Rattle.scope.specs.Views.{isItem}
 use Rattle.scope.specs.Desk.{listed}

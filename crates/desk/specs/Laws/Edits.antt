@@ -19,10 +19,10 @@ use Rattle.codec.specs.Laws.Field.{length-texts}
 use Rattle.codec.specs.Laws.View.{before-most}
 use Rattle.codec.specs.Laws.Longest.{field-size}
 use Rattle.codec.specs.Laws.Change.{Splice, newOctets, newFlag, spliced}
+use Rattle.papers.specs.Papers.{LONGEST, known, paperOf, itemsOf}
+use Rattle.papers.specs.Laws.Papers.{good-paper, few-items, few-octets}
 use Rattle.layout.specs.declared.Answer.{Answer}
 use Rattle.layout.specs.declared.Answer.the-variants.{Accepted, Refused}
-use Rattle.layout.specs.Papers.{LONGEST, known, paperOf, itemsOf}
-use Rattle.layout.specs.Laws.Papers.{good-paper, few-items, few-octets}
 use Rattle.scope.specs.Reading.{fieldOf}
 use Rattle.scope.specs.Outputs.{withRoom, Leaves}
 use Rattle.scope.specs.Views.{isItem}

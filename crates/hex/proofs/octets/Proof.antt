@@ -1,6 +1,5 @@
 -- `hex::octets` meets its contract: one law at each way out. Assumes nothing.
 use mathlib.Core.Path.{_∙_, sym}
-use borrow.Author.Needs.{needs}
 use denote.Ref.{now}
 use Rattle.hex.specs.Laws.Octets.{octets-most, octets-there, octets-none}
 use Rattle.hex.proofs.octets.Statement.{statement}

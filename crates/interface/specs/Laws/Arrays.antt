@@ -8,17 +8,17 @@ use borrow.Author.Tests.{eq-eqb, ne-eqb}
 use lib.IntN.{ℤ, pos}
 use lib.ListN.{length, getD, take, drop, set, length-set, length-map, length-append, length-drop, drop-of-length-le}
 use lib.Seq.{take-all, take-at, length-take-le}
+use Rattle.papers.specs.Papers.{known}
 use Rattle.layout.specs.declared.Record.{Record}
 use Rattle.layout.specs.declared.Reading.{Reading}
 use Rattle.layout.specs.declared.Answer.{Answer}
 use Rattle.layout.specs.declared.Answer.the-variants.{Accepted, Refused}
-use Rattle.layout.specs.Papers.{known}
 use Rattle.scope.specs.Writing.{writeOf, Wrote}
 use Rattle.scope.specs.Outputs.{Leaves}
 use Rattle.scope.specs.Laws.Outputs.{refused-left}
 use Rattle.interface.specs.Packed.{answerWord}
 use Rattle.interface.specs.Arrays.{PLACES, Filled, Fills, arrayOf, fillAnswer, filledBy, areOctets, octetOf, ofArray, writeArray}
-use Rattle.layout.specs.Record.{SLOTS}
+use Rattle.papers.specs.Papers.{SLOTS}
 
 -- ---- the ways out of `write_array`
 

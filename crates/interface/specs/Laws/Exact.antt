@@ -15,12 +15,12 @@ use Rattle.codec.specs.Frame.{Outcome, accepted, refused}
 use Rattle.codec.specs.Change.{Change}
 use Rattle.codec.specs.Laws.Change.{newOctets}
 use Rattle.codec.specs.Laws.Tests.{and-l, and-r, and-in, holds}
+use Rattle.papers.specs.Papers.{known}
 use Rattle.layout.specs.declared.Record.{Record}
 use Rattle.layout.specs.declared.Answer.{Answer}
 use Rattle.layout.specs.declared.Which.{Which}
 use Rattle.layout.specs.declared.Which.the-variants.{Neither, Base, Correction}
 use Rattle.layout.specs.Answer.{numberOf, placeOf, lengthOf, viewNumber, viewPlace, viewLength, whichNumber}
-use Rattle.layout.specs.Papers.{known}
 use Rattle.scope.specs.Reading.{readOf}
 use Rattle.scope.specs.Writing.{writable, written, writeOf}
 use Rattle.scope.specs.Outputs.{withRoom, answerOf}
@@ -31,7 +31,7 @@ use Rattle.interface.specs.Arrays.{PLACES, arrayOf, fillAnswer, isOctet,
 use Rattle.interface.specs.Laws.Packed.{Tells, word-tells}
 use Rattle.interface.specs.Laws.Fits.{FitAnswer, read-fits, fill-fits, write-fits, view-fits, choose-fits, edit-fits}
 use Rattle.interface.specs.Laws.Arrays.{array-places}
-use Rattle.layout.specs.Record.{SLOTS}
+use Rattle.papers.specs.Papers.{SLOTS}
 
 refused≢accepted : {A X : Type 0} {x : A} {n p : ℕ} → refused n p ≡ accepted x → X
 refused≢accepted h = let z : _≡_ {A = ℕ} 0 1 = cc in absurd (omega arith)

@@ -17,6 +17,7 @@ use Rattle.codec.specs.Change.{Change, remove, put, alone, putIn, change}
 use Rattle.codec.specs.Laws.Change.{newOctets}
 use Rattle.codec.specs.Laws.Tests.{and-l, and-r}
 use Rattle.codec.specs.Laws.Within.{PlaceTo, within-body, frame-place}
+use Rattle.papers.specs.Papers.{known, paperOf}
 use Rattle.layout.specs.declared.Record.{Record}
 use Rattle.layout.specs.declared.Reading.{Reading}
 use Rattle.layout.specs.declared.Answer.{Answer}
@@ -26,7 +27,6 @@ use Rattle.layout.specs.declared.View.the-variants.{Shown, Hidden}
 use Rattle.layout.specs.declared.Which.the-variants.{Neither, Base, Correction}
 use Rattle.layout.specs.declared.Choice.{Choice}
 use Rattle.layout.specs.Answer.{placeOf, lengthOf, viewPlace, viewLength}
-use Rattle.layout.specs.Papers.{known, paperOf}
 use Rattle.layout.specs.Record.{contents}
 use Rattle.scope.specs.Reading.{fieldOf, readOf}
 use Rattle.scope.specs.Writing.{writable, written, writeOf}

@@ -3,9 +3,9 @@ use mathlib.Core.Path.{refl}
 use Rattle.codec.specs.Radix.{total}
 use Rattle.codec.specs.Line.{widths, count}
 use Rattle.codec.specs.Item.{linesOf}
-use Rattle.layout.specs.Cat048.{cat048}
-use Rattle.layout.specs.Cat021.{cat021}
-use Rattle.layout.specs.Cat007.{cat007}
+use Rattle.papers.specs.Cat048.{cat048}
+use Rattle.papers.specs.Cat021.{cat021}
+use Rattle.papers.specs.Cat007.{cat007}
 use Rattle.lengths.specs.Lines.{items, placedFrom, placedIn, placed, maskOf, spareMask, kindCode, codeOf, pieces}
 use Rattle.lengths.proofs.table_of_pieces.Statement.{statement}
 use Rattle.lengths.proofs.table_of_pieces.Tie as tie

@@ -9,9 +9,9 @@ use Rattle.codec.specs.Radix.{total}
 use Rattle.codec.specs.Line.{Line, widths, count, fills}
 use Rattle.codec.specs.Item.{linesOf}
 use Rattle.codec.specs.Laws.Tests.{and-l, and-r}
-use Rattle.layout.specs.Cat048.{cat048}
-use Rattle.layout.specs.Cat021.{cat021}
-use Rattle.layout.specs.Cat007.{cat007}
+use Rattle.papers.specs.Cat048.{cat048}
+use Rattle.papers.specs.Cat021.{cat021}
+use Rattle.papers.specs.Cat007.{cat007}
 use Rattle.lengths.specs.Lines.{items, noLine, placedFrom, placedIn, placed, placedAt, lineAt, firstAt, kindCode, codeOf, kindOf, pieceOf, piecesFrom, narrow, spareMask, maskOf, lengthOf, takenOf, lengths, pieces}
 
 abbrev pub every : {A : Type 0} → (A → Bool) → List A → Bool

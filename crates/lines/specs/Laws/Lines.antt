@@ -1,14 +1,13 @@
 -- Each turn of `join` takes one line of the input, or what is left of it; and the lines of an input are the same, however it is cut into reads.
-use mathlib.Core.Path.{_≡_, refl, sym, ap, ap₂, _∙_, subst}
+use mathlib.Core.Path.{_≡_, refl, sym, ap, ap₂, _∙_}
 use mathlib.Core.Bool.{Bool, true, false}
 use mathlib.Core.List.{List, [], _∷_, _++_, append-assoc}
 use Prim.Native.Nat.{ℕ, zero, suc, _+_, _-_, _≤_, _<_}
-use native.Mathlib.Numerals.{add-one}
 use native.Mathlib.Omega.{arith}
-use borrow.Author.Tests.{lt-ltb, le-ltb, ltb-true, ltb-false}
+use borrow.Author.Tests.{ltb-true, ltb-false}
 use lib.Dec.{ltb, eqb}
 use lib.ListN.{length, take, drop, set, length-set, length-append, length-take}
-use lib.Seq.{take-all, take-append-seam, set-split, length-take-le}
+use lib.Seq.{take-all, take-append-seam, set-split}
 use Rattle.codec.specs.Pick.{pick}
 use Rattle.lines.specs.Lines.{ended, left, held}
 use Rattle.lines.specs.Joining.{more, putIn, joinOf, lineAfter}

@@ -25,12 +25,12 @@ use Rattle.codec.specs.Laws.Item.{zeros-are, nothing-count, beside-first, besid
 use Rattle.codec.specs.Laws.Field.{lawful-body, row-okay}
 use Rattle.codec.specs.Laws.Frame.{refused≢accepted, accepted-front}
 use Rattle.codec.specs.Laws.Longest.{field-size}
-use Rattle.layout.specs.Cat048.{cat048}
-use Rattle.layout.specs.Cat021.{cat021}
-use Rattle.layout.specs.Cat007.{cat007}
-use Rattle.layout.specs.Names.{text, Key, Named, names048, names021, names007, namesOf}
-use Rattle.layout.specs.Papers.{known, paperOf, longestOf}
-use Rattle.layout.specs.Laws.Papers.{by-paper, good-paper}
+use Rattle.papers.specs.Cat048.{cat048}
+use Rattle.papers.specs.Cat021.{cat021}
+use Rattle.papers.specs.Cat007.{cat007}
+use Rattle.papers.specs.Names.{text, Key, Named, names048, names021, names007, namesOf}
+use Rattle.papers.specs.Papers.{known, paperOf, longestOf}
+use Rattle.papers.specs.Laws.Papers.{by-paper, good-paper}
 use Rattle.scope.specs.Angle.{udegOf}
 use Rattle.scope.specs.Reading.{fieldOf}
 use Rattle.scope.specs.Sheet.{decimal, signedDecimal, keyLine, numbersText, linesThere, linesText, chainText, itemText, rowText, itemsText, refusalText, sheetOf}

@@ -13,7 +13,7 @@ use lib.Signed.{leZ}
 use Rattle.codec.specs.Signed.{inSigned}
 use Rattle.codec.specs.Line.{Kind, plain, signed, limited, Piece, spare, num, inNum, limit, fitNums, inLimits}
 use Rattle.codec.specs.Laws.Tests.{and-l, and-r}
-use Rattle.layout.specs.Names.{text, Key, hidden, shown, angle, pressure}
+use Rattle.papers.specs.Names.{text, Key, hidden, shown, angle, pressure}
 use Rattle.scope.specs.Angle.{rounded, udegOf}
 use Rattle.scope.specs.Sheet.{decimal, signedDecimal, keyLine, numberText, numbersText}
 use Rattle.text.specs.Laws.Decimals.{decimal-longer}

@@ -24,18 +24,18 @@ loop-holds c = let a = c .before .before .args in (omega arith, judged-start (no
 next-place-requires : tie.Need-next-place-requires Inv-loop μ-loop
 next-place-requires c κs = omega arith
 
-word-requires : tie.Need-word-requires Inv-loop μ-loop
-word-requires c κs = tt
-
 word-at-requires : tie.Need-word-at-requires Inv-loop μ-loop
 word-at-requires c κs = tt
+
+word-at-requires-2 : tie.Need-word-at-requires-2 Inv-loop μ-loop
+word-at-requires-2 c κs = tt
 
 same-requires : tie.Need-same-requires Inv-loop μ-loop
 same-requires c κs = tt
 
 -- the test of the name, of the line's first word and the row's
 named : (c : tie.After-same Inv-loop μ-loop) → c .same .result ≡ same (nth (wordsOf (now (c .before .before .before .before .before .before .before .before .args .line))) 0) (wordOf (drop (c .before .before .before .before .before .loop .at) (now (c .before .before .before .before .before .before .before .before .args .forms))))
-named c = same-told _ _ (c .same .ensures) ∙ ap₂ same (c .before .before .word .ensures ∙ name-of _) (c .before .word-at .ensures)
+named c = same-told _ _ (c .same .ensures) ∙ ap₂ same (c .before .before .word-at .ensures ∙ name-of _) (c .before .word-at2 .ensures)
 
 -- the next row stands behind
 further : (c : tie.After-next-place2 Inv-loop μ-loop) → c .before .before .before .before .before .before .before .loop .at < c .next-place2 .result
@@ -44,12 +44,12 @@ further c =
     let f = now (l .before .before .before .args .forms) in
     omega (arith, n .next-place .ensures, place-next f (l .loop .at) (omega arith), c .next-place2 .ensures, place-later f (n .next-place .result))
 
-word-at-requires-2 : tie.Need-word-at-requires-2 Inv-loop μ-loop
-word-at-requires-2 c κs = tt
+word-at-requires-3 : tie.Need-word-at-requires-3 Inv-loop μ-loop
+word-at-requires-3 c κs = tt
 
 judged-as-requires : tie.Need-judged-as-requires Inv-loop μ-loop
 judged-as-requires c κs = let n = c .before .before .before .before .before in
-    (omega arith, omega (arith, word-short (now (n .before .before .before .before .before .args .forms)) (n .next-place .result) (c .word-at2 .ensures)))
+    (omega arith, omega (arith, word-short (now (n .before .before .before .before .before .args .forms)) (n .next-place .result) (c .word-at3 .ensures)))
 
 returns : tie.Need-returns Inv-loop μ-loop
 returns c = let w = c .before in let i = w .before in let n = i .before .before .before .before in let l = n .before .before in
@@ -58,7 +58,7 @@ returns c = let w = c .before in let i = w .before in let n = i .before .before 
     sym
     (l .loop .inv .1
     ∙ judged-here (l .loop .q) (now (a .forms)) (l .loop .at) ws (omega arith) (sym (named (i .before)) ∙ i .if1 .taken)
-    ∙ sym (c .judged-as .ensures ∙ rw (w .word-at2 .ensures, n .next-place .ensures) refl))
+    ∙ sym (c .judged-as .ensures ∙ rw (w .word-at3 .ensures, n .next-place .ensures) refl))
 
 next-place-requires-2 : tie.Need-next-place-requires-2 Inv-loop μ-loop
 next-place-requires-2 c κs = omega arith
@@ -91,10 +91,10 @@ judge-spec =
     μ-loop
     loop-holds
     next-place-requires
-    word-requires
     word-at-requires
-    same-requires
     word-at-requires-2
+    same-requires
+    word-at-requires-3
     judged-as-requires
     returns
     next-place-requires-2

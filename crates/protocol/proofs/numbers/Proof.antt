@@ -6,7 +6,7 @@ use denote.Ref.{now}
 use borrow.Author.Needs.{sfits-of}
 use mir.Facts.{toZ-ofZ}
 use Rattle.words.specs.Numbers.{wholeIn}
-use Rattle.layout.specs.Record.{SLOTS}
+use Rattle.papers.specs.Papers.{SLOTS}
 use Rattle.protocol.specs.Laws.Record.{filled, filled-more, filled-end}
 use Rattle.protocol.proofs.numbers.Statement.{statement}
 use Rattle.protocol.proofs.numbers.Tie as tie

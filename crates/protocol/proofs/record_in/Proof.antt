@@ -2,7 +2,7 @@
 use denote.Ref.{now}
 use Rattle.protocol.specs.Line.{wordsAt}
 use Rattle.words.specs.Numbers.{valueIn, wholeIn}
-use Rattle.layout.specs.Record.{SLOTS}
+use Rattle.papers.specs.Papers.{SLOTS}
 use Rattle.protocol.specs.Laws.Record.{filled-all, record-taken}
 use borrow.Author.Needs.{needs}
 use Rattle.protocol.proofs.record_in.Statement.{statement}

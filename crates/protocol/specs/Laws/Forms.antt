@@ -2,21 +2,18 @@
 use mathlib.Core.Path.{_≡_, refl, sym, ap, _∙_}
 use mathlib.Core.Bool.{Bool, true, false, not}
 use mathlib.Core.List.{List, [], _∷_}
-use Prim.Native.Nat.{ℕ, zero, suc, _+_, _-_, _≤_, _<_}
+use Prim.Native.Nat.{ℕ, _+_, _-_, _≤_, _<_}
 use native.Mathlib.Numerals.{add-one}
-use native.Mathlib.Omega.{arith}
-use borrow.Author.Tests.{le-leb, lt-leb, lt-ltb, le-ltb, eq-eqb, ne-eqb}
-use lib.Dec.{leb, ltb, eqb}
-use lib.ListN.{length, getD, take, drop, replicate, length-drop, drop-of-length-le}
-use lib.Seq.{drop-cons, length-take-le}
-use Rattle.codec.specs.Pick.{pick}
+use borrow.Author.Tests.{lt-ltb, le-ltb, eq-eqb, ne-eqb}
+use lib.Dec.{ltb, eqb}
+use lib.ListN.{length, getD, drop, replicate, drop-of-length-le}
+use lib.Seq.{drop-cons}
 use Rattle.words.specs.Lines.{wordOf}
 use Rattle.protocol.specs.Line.{wordsOf, nth, same, wordsAt, nextPlace, placesFrom}
 use Rattle.protocol.specs.Forms.{fits, Form, firstWrong, judgedAs, judgedBy, parseOf, forms}
 use Rattle.protocol.specs.Laws.Line.{words-all, none-at, some-at, word-at, rest-at}
 use Rattle.protocol.specs.declared.Judged.{Judged}
 use Rattle.protocol.specs.declared.Judged.the-variants.{Asks, Wrong}
-use Rattle.protocol.specs.declared.Parsed.{Parsed}
 
 -- ---- of `fits`
 

@@ -3,7 +3,6 @@ use mathlib.Core.Path.{_≡_, refl, sym, ap, ap₂, _∙_}
 use mathlib.Core.Bool.{Bool, true, false, _&&_}
 use mathlib.Core.List.{List, [], _∷_}
 use Prim.Native.Nat.{ℕ, zero, suc, _+_, _-_, _≤_, _<_}
-use native.Mathlib.Numerals.{add-one}
 use native.Mathlib.Omega.{arith}
 use borrow.Author.Tests.{le-leb, lt-leb, leb-true, leb-false, eq-eqb, eqb-true}
 use lib.Dec.{leb, eqb, leb·suc-suc}
@@ -106,15 +105,11 @@ placed-from s at (suc n) (suc k) h = placed-from s (nextPlace s at) n k (omega a
 pub words-from : (s : List ℕ) (k : ℕ) → k < 10 → wordsAt s (getD (placesFrom s 0 10) k 0) ≡ drop k (wordsOf s)
 words-from s k h = placed-from s 0 10 k h ∙ ap (drop k) (words-all s)
 
--- ---- of `word_at` and `next_place`
+-- ---- of `next_place`
 
 pub word-length : (s : List ℕ) → length (wordOf s) ≡ wordLength s
 unfolding wordOf
 word-length s = length-take-le (wordLength s) s (word-within s)
-
-pub word-past : (s : List ℕ) (at : ℕ) → length s < at → take 0 s ≡ wordOf (drop at s)
-unfolding wordOf wordLength
-word-past s at h = rw (drop-of-length-le s {i = at} (omega arith)) refl
 
 pub place-within : (s : List ℕ) (at : ℕ) → at ≤ length s → at + wordLength (drop at s) ≤ length s
 place-within s at h = omega (arith, word-within (drop at s), length-drop at s)

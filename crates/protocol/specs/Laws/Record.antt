@@ -1,13 +1,13 @@
 -- One law for each way through the code that takes a record from its words.
 use mathlib.Core.Path.{_≡_, refl, sym, ap, _∙_}
-use mathlib.Core.List.{List, [], _∷_, _++_, append-nil}
+use mathlib.Core.List.{List, _++_, append-nil}
 use Prim.Native.Nat.{ℕ, zero, suc, _+_, _-_, _≤_, _<_}
 use native.Mathlib.Numerals.{add-one}
 use native.Mathlib.Omega.{arith}
 use lib.IntN.{ℤ}
 use lib.ListN.{length, take, drop, set, drop-of-length-le}
 use lib.Seq.{sets, sets-eq, drop-drop, take-all}
-use Rattle.layout.specs.Record.{SLOTS}
+use Rattle.papers.specs.Papers.{SLOTS}
 use Rattle.layout.specs.declared.Record.{Record}
 use Rattle.words.specs.Lines.{wordOf}
 use Rattle.words.specs.Numbers.{valueIn, wholeIn}

@@ -10,7 +10,7 @@ use Rattle.reader.specs.Laws.Walk.{stands}
 use Rattle.reader.specs.Laws.Chains.{rest-ok, room-line, room-next, walk-stop, walk-over, walk-end, next-ready, walk-on}
 use borrow.Fn.Kinds.{In}
 use borrow.Fn.PlainCycle.{Measures, is, falls, and}
-use Rattle.layout.specs.Record.{SLOTS}
+use Rattle.papers.specs.Papers.{SLOTS}
 use Rattle.reader.proofs.rest.Reads as rest
 use Rattle.reader.proofs.rest.Kinds as rest-kinds
 use Rattle.reader.proofs.+rest.Lts-rest as rest-lts

@@ -6,16 +6,16 @@ use denote.Ref.{now}
 use Rattle.codec.specs.Line.{count}
 use Rattle.codec.specs.Item.{linesOf, slotsOf, slots, item}
 use Rattle.codec.specs.Laws.Arms.{past}
-use Rattle.layout.specs.Cat048.{cat048}
-use Rattle.layout.specs.Cat021.{cat021}
-use Rattle.layout.specs.Cat007.{cat007}
+use Rattle.papers.specs.Cat048.{cat048}
+use Rattle.papers.specs.Cat021.{cat021}
+use Rattle.papers.specs.Cat007.{cat007}
 use Rattle.lengths.specs.Lines.{items, placedFrom, placedIn, placed, placedAt}
 use Rattle.shapes.specs.Shapes.{itemAt, linesFrom, partsOk, flagsUnder, itemOf}
 use Rattle.reader.specs.Steps.{lineRun}
 use Rattle.reader.specs.Chains.{chainRoom}
 use Rattle.reader.specs.Items.{itemRun}
 use Rattle.reader.specs.Laws.Items.{chain-ready, as-item, as-line, as-chain, past-items}
-use Rattle.layout.specs.Record.{SLOTS}
+use Rattle.papers.specs.Papers.{SLOTS}
 use Rattle.reader.proofs.item.Statement.{statement}
 use Rattle.reader.proofs.item.Tie as tie
 

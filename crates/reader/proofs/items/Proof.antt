@@ -5,7 +5,7 @@ use denote.Ref.{now}
 use Prim.Native.Nat.{_≤_}
 use lib.ListN.{drop}
 use Rattle.codec.specs.Field.{flags, allZero}
-use Rattle.layout.specs.Laws.Papers.{few-items}
+use Rattle.papers.specs.Laws.Papers.{few-items}
 use Rattle.reader.specs.Laws.Fields.{row-asks, row-of, items-spare, items-stop, items-left, items-all}
 use Rattle.reader.proofs.items.Statement.{statement}
 use Rattle.reader.proofs.items.Tie as tie

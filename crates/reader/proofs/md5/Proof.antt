@@ -4,9 +4,9 @@ use native.Mathlib.Omega.{arith}
 use denote.Ref.{now}
 use Rattle.codec.specs.Line.{count}
 use Rattle.codec.specs.Item.{linesOf, slotsOf}
-use Rattle.layout.specs.Cat048.{cat048}
-use Rattle.layout.specs.Cat021.{cat021}
-use Rattle.layout.specs.Cat007.{cat007}
+use Rattle.papers.specs.Cat048.{cat048}
+use Rattle.papers.specs.Cat021.{cat021}
+use Rattle.papers.specs.Cat007.{cat007}
 use Rattle.lengths.specs.Lines.{items, placedFrom, placedIn, placed, placedAt}
 use Rattle.shapes.specs.Shapes.{itemAt, linesFrom, partsOk, flagsUnder, itemOf}
 use Rattle.reader.specs.Laws.Walk.{stands-same}

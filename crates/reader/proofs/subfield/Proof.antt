@@ -15,7 +15,7 @@ use Rattle.codec.specs.Item.{isOne}
 use Rattle.lengths.specs.Lines.{lineAt, firstAt}
 use Rattle.reader.specs.Laws.Walk.{stands}
 use Rattle.reader.specs.Laws.Items.{sub-stop, sub-absent, sub-bad, sub-got}
-use Rattle.layout.specs.Record.{SLOTS}
+use Rattle.papers.specs.Papers.{SLOTS}
 use Rattle.reader.proofs.subfield.Statement.{statement}
 use Rattle.reader.proofs.subfield.Tie as tie
 

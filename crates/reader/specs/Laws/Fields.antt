@@ -17,10 +17,10 @@ use Rattle.codec.specs.Frame.{Outcome, accepted, refused, settle, readFrame}
 use Rattle.codec.specs.Meaning.{lenOf}
 use Rattle.codec.specs.Laws.Codec.{number-one}
 use Rattle.codec.specs.Laws.Frame.{mapOutcome, frame-empty, frame-small, frame-short, frame-whole}
+use Rattle.papers.specs.Papers.{known, paperOf, itemsOf}
+use Rattle.papers.specs.Laws.Papers.{few-items}
 use Rattle.layout.specs.declared.Answer.{Answer}
 use Rattle.layout.specs.declared.Answer.the-variants.{Accepted, Refused}
-use Rattle.layout.specs.Papers.{known, paperOf, itemsOf}
-use Rattle.layout.specs.Laws.Papers.{few-items}
 use Rattle.shapes.specs.Spots.{spotAt, spotOf, itemOn, rowOk, itemsFrom}
 use Rattle.shapes.specs.Laws.Spots.{Spots, spots-right}
 use Rattle.reader.specs.Steps.{run}

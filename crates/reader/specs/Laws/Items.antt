@@ -26,7 +26,7 @@ use Rattle.reader.specs.Laws.Chains.{chain-whole}
 use Rattle.reader.specs.Walk.{Stands, Ready}
 use Rattle.reader.specs.Laws.Walk.{stands, stands-bad, stands-got, stands-same, stood, fell, ready-after, sets-zeros, getD-sets-at, run-map, beside-bad, beside-got}
 use Rattle.reader.specs.Items.{extend, more, HeldSoFar, itemRun}
-use Rattle.layout.specs.Record.{SLOTS}
+use Rattle.papers.specs.Papers.{SLOTS}
 
 unfoldable pub moreAll : List Line → List ℕ → Res Held → Res Held
 moreAll [] xs x = x

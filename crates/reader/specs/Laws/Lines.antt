@@ -27,7 +27,7 @@ use Rattle.reader.specs.Steps.{stepOf, afterOf, lineRun}
 use Rattle.reader.specs.Numbers.{numsAt}
 use Rattle.reader.specs.Laws.Numbers.{nums-at, length-nums-at}
 use Rattle.reader.specs.declared.lines.Step.the-variants.{Next, Refused}
-use Rattle.layout.specs.Record.{SLOTS}
+use Rattle.papers.specs.Papers.{SLOTS}
 
 -- the octets of a line as a number n below 2 ^ (8 k): the digits above FX
 module _ (l : Line) (good : T (fills l)) (n : ℕ) (lt : n < 2 ^ (8 * l .octets)) where

@@ -18,7 +18,7 @@ use Rattle.codec.specs.Laws.Tests.{and-l, and-r}
 use Rattle.lengths.specs.Lines.{kindOf, piecesFrom, narrow}
 use Rattle.lengths.specs.Laws.Formats.{more-spare, more-num}
 use Rattle.reader.specs.Numbers.{numsAt, inside, Took}
-use Rattle.layout.specs.Record.{SLOTS}
+use Rattle.papers.specs.Papers.{SLOTS}
 
 -- ---- they are the numbers of the digits above FX
 

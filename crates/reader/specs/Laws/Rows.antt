@@ -14,7 +14,8 @@ use Rattle.codec.specs.Item.{slots, nothing, item}
 use Rattle.codec.specs.Field.{firstFlag, nextFlags}
 use Rattle.codec.specs.Laws.Tests.{and-l, and-r}
 use Rattle.codec.specs.Laws.Long.{LongBy, many, long-shift, long-opt, long-item}
-use Rattle.layout.specs.Record.{SLOTS, allParts, allNumbers}
+use Rattle.papers.specs.Papers.{SLOTS}
+use Rattle.layout.specs.Record.{allParts, allNumbers}
 use Rattle.shapes.specs.Shapes.{itemAt}
 use Rattle.shapes.specs.Spots.{spotAt, itemOn, spotOk, rowOk}
 use Rattle.codec.specs.Laws.Sets.{sets-append}

@@ -20,10 +20,10 @@ use Rattle.codec.specs.Laws.Codec.{octets-drop, octets-take, lawful-opt}
 use Rattle.codec.specs.Laws.Item.{only-nothing, lawful-item}
 use Rattle.codec.specs.Laws.Field.{length-texts}
 use Rattle.codec.specs.Laws.View.{before-next}
+use Rattle.papers.specs.Papers.{paperOf, itemsOf}
+use Rattle.papers.specs.Laws.Papers.{good-paper, few-items}
 use Rattle.layout.specs.declared.Answer.{Answer}
 use Rattle.layout.specs.declared.Answer.the-variants.{Accepted, Refused}
-use Rattle.layout.specs.Papers.{paperOf, itemsOf}
-use Rattle.layout.specs.Laws.Papers.{good-paper, few-items}
 use Rattle.scope.specs.Survey.{startsFrom, surveyed, surveyOf}
 use Rattle.shapes.specs.Spots.{spotOf, itemOn, itemsFrom}
 use Rattle.shapes.specs.Laws.Spots.{spots-right}

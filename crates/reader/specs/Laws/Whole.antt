@@ -18,12 +18,12 @@ use Rattle.codec.specs.Frame.{Outcome, accepted, refused}
 use Rattle.codec.specs.Meaning.{lenOf}
 use Rattle.codec.specs.Laws.Long.{LongBy, many}
 use Rattle.codec.specs.Laws.Frame.{mapOutcome}
+use Rattle.papers.specs.Papers.{known, paperOf, itemsOf, SLOTS, allSlots}
+use Rattle.papers.specs.Laws.Papers.{few-items, few-slots}
 use Rattle.layout.specs.declared.Reading.{Reading}
 use Rattle.layout.specs.declared.Answer.{Answer}
 use Rattle.layout.specs.declared.Answer.the-variants.{Accepted, Refused}
-use Rattle.layout.specs.Papers.{known, paperOf, itemsOf}
-use Rattle.layout.specs.Record.{SLOTS, allParts, allNumbers, allSlots, flatten}
-use Rattle.layout.specs.Laws.Papers.{few-items, few-slots}
+use Rattle.layout.specs.Record.{allParts, allNumbers, flatten}
 use Rattle.scope.specs.Reading.{fieldOf, noRecord, shown, readOf}
 use Rattle.shapes.specs.Spots.{spotOf, itemOn, itemsFrom}
 use Rattle.shapes.specs.Laws.Spots.{spots-right}

@@ -6,7 +6,7 @@ use lib.ListN.{take}
 use lib.Seq.{take-all}
 use Rattle.text.specs.Laws.Typing.{types-behind}
 use Rattle.replies.specs.Texts.{recordText}
-use Rattle.layout.specs.Record.{SLOTS}
+use Rattle.papers.specs.Papers.{SLOTS}
 use Rattle.replies.proofs.record_text.Statement.{statement}
 use Rattle.replies.proofs.record_text.Tie as tie
 

@@ -6,6 +6,7 @@ use native.Mathlib.Omega.{arith}
 use lib.ListN.{length, take, drop, getD}
 use lib.Seq.{take-suc, take-all, take-append-seam}
 use Rattle.codec.specs.Frame.{Outcome, accepted, refused}
+use Rattle.papers.specs.Names.{text}
 use Rattle.layout.specs.declared.Answer.{Answer}
 use Rattle.layout.specs.declared.Answer.the-variants.{Accepted, Refused}
 use Rattle.layout.specs.declared.View.{View}
@@ -13,7 +14,6 @@ use Rattle.layout.specs.declared.View.the-variants.{Shown, Hidden}
 use Rattle.layout.specs.declared.Choice.{Choice}
 use Rattle.layout.specs.declared.Reading.{Reading}
 use Rattle.layout.specs.Answer.{whichNumber}
-use Rattle.layout.specs.Names.{text}
 use Rattle.scope.specs.Outputs.{answerOf, after, Leaves}
 use Rattle.text.specs.Typing.{Types}
 use Rattle.text.specs.Laws.Typing.{types-none, types-behind}

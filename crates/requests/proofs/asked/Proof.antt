@@ -1,6 +1,6 @@
 -- `requests::asked` meets its contract: a handler for each request. Assumes nothing.
 use denote.Ref.{now}
-use Rattle.requests.specs.Requests.{asked}
+use Rattle.answers.specs.Answers.{asked}
 use Rattle.requests.specs.Laws.Requests.{wordIn, wordsFrom, asked-as, none-asked}
 use Rattle.requests.proofs.asked.Statement.{statement}
 use Rattle.requests.proofs.asked.Tie as tie

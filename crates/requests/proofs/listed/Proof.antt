@@ -4,11 +4,11 @@ use mathlib.Core.List.{_∷_}
 use native.Mathlib.Omega.{arith}
 use borrow.Author.Needs.{needs}
 use denote.Ref.{now}
-use Rattle.codec.specs.Laws.Codec.{octets-all}
+use Rattle.codec.specs.Laws.Codec.{octets-cons, octets-all}
 use Rattle.layout.specs.declared.Reading.{Reading}
 use Rattle.scope.specs.Sheet.{sheetOf}
 use Rattle.sheet.specs.Laws.Whole.{Standing, sheet-stands}
-use Rattle.requests.specs.Laws.Requests.{octets-cons, listed-lines, listed-refused}
+use Rattle.requests.specs.Laws.Requests.{listed-lines, listed-refused}
 use Rattle.requests.proofs.listed.Statement.{statement}
 use Rattle.requests.proofs.listed.Tie as tie
 

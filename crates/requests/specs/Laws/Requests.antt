@@ -5,13 +5,11 @@ use mathlib.Core.List.{List, [], _∷_}
 use Prim.Native.Nat.{ℕ, _≤_, _<_}
 use native.Mathlib.Omega.{arith}
 use borrow.Author.Tests.{ltb-false, ne-eqb}
-use lib.Dec.{ltb, lt→ltb}
+use lib.Dec.{ltb}
 use lib.ListN.{length, getD, take, drop, replicate}
 use lib.Seq.{length-take-le}
 use Rattle.codec.specs.Pick.{pick}
-use Rattle.codec.specs.Codec.{Octets}
 use Rattle.codec.specs.Change.{remove, put}
-use Rattle.codec.specs.Laws.Tests.{and-in}
 use Rattle.layout.specs.declared.Answer.{Answer}
 use Rattle.layout.specs.declared.Answer.the-variants.{Accepted, Refused}
 use Rattle.layout.specs.declared.Reading.{Reading}
@@ -32,11 +30,10 @@ use Rattle.protocol.specs.Forms.{forms, judgedBy, parseOf}
 use Rattle.protocol.specs.Record.{recordIn, recordAt}
 use Rattle.protocol.specs.Laws.Line.{words-placed, words-from}
 use Rattle.protocol.specs.Laws.Record.{record-short}
-use Rattle.protocol.specs.declared.Judged.{Judged}
 use Rattle.protocol.specs.declared.Judged.the-variants.{Asks, Wrong}
 use Rattle.protocol.specs.declared.Parsed.{Parsed}
 use Rattle.replies.specs.Texts.{badRequest, refusalText, outputText, readingText, sheetText}
-use Rattle.requests.specs.Requests.{listed, viewed, chosen, readAnswer, writeAnswer, sheetAnswer, viewAnswer, chooseAnswer, removeAnswer, replaceAnswer, asked, said, answerOf}
+use Rattle.answers.specs.Answers.{listed, viewed, chosen, readAnswer, writeAnswer, sheetAnswer, viewAnswer, chooseAnswer, removeAnswer, replaceAnswer, asked, said, answerOf}
 
 -- the word of a line that starts at a place of the parser's, and all words from it on
 abbrev pub wordIn : List ℕ → List ℕ → ℕ → List ℕ
@@ -57,9 +54,6 @@ module _ (w b : List ℕ) (eb : 300 ≡ length b) {n : ℕ} (en : n ≡ valueIn 
   room-is = sym room-counted ∙ en
 
 -- ---- the ways out of `listed`
-
-pub octets-cons : (o : ℕ) (s : List ℕ) → o < 256 → Octets s → Octets (o ∷ s)
-octets-cons o s h x = and-in (ltb o 256) _ (lt→ltb o 256 h) x
 
 module _ {a : Answer} (lines : List ℕ) {l m : List ℕ} {at last : ℕ} where
   pub listed-lines : {n : ℕ} → a ≡ Accepted n → {t : List ℕ} → t ≡ lines → Types (sheetText t) l at m last → Types (listed a lines) l at m last

@@ -22,11 +22,11 @@ use Rattle.codec.specs.Laws.Field.{lawful-body, indicator-lt, flags-join, flag-
 use Rattle.codec.specs.Laws.Frame.{refused≢accepted, read-again, frame-octets}
 use Rattle.codec.specs.Laws.Longest.{okay-alone}
 use Rattle.codec.specs.Laws.Change.{Splice, newOctets, newFlag, spliced, flat-set, remove-absent, others-keep-text, others-keep-flag}
+use Rattle.papers.specs.Papers.{known, paperOf}
+use Rattle.papers.specs.Laws.Papers.{good-paper, few-items, few-octets}
 use Rattle.layout.specs.declared.Answer.the-variants.{Accepted}
 use Rattle.layout.specs.Answer.{viewNumber}
-use Rattle.layout.specs.Papers.{known, paperOf}
 use Rattle.layout.specs.Record.{flatten, contents}
-use Rattle.layout.specs.Laws.Papers.{good-paper, few-items, few-octets}
 use Rattle.layout.specs.Laws.Record.{unflatten-flatten}
 use Rattle.scope.specs.Reading.{fieldOf, readOf}
 use Rattle.scope.specs.Outputs.{withRoom}

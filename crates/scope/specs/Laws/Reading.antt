@@ -13,12 +13,12 @@ use Rattle.codec.specs.Meaning.{lenOf}
 use Rattle.codec.specs.Laws.Tests.{and-l, and-r, holds}
 use Rattle.codec.specs.Laws.Field.{lawful-body}
 use Rattle.codec.specs.Laws.Frame.{Front, refused≢accepted, mapOutcome, frame-via, read-again, accepted-front}
+use Rattle.papers.specs.Papers.{known, paperOf}
+use Rattle.papers.specs.Laws.Papers.{good-paper}
 use Rattle.layout.specs.declared.Record.{Record}
 use Rattle.layout.specs.declared.Reading.{Reading}
 use Rattle.layout.specs.declared.Answer.the-variants.{Accepted}
-use Rattle.layout.specs.Papers.{known, paperOf}
 use Rattle.layout.specs.Record.{flatten, unflatten, fitsPaper, contents}
-use Rattle.layout.specs.Laws.Papers.{good-paper}
 use Rattle.layout.specs.Laws.Answer.{Refused≢Accepted}
 use Rattle.layout.specs.Laws.Record.{lawful-contents}
 use Rattle.scope.specs.Reading.{fieldOf, shown, readOf}

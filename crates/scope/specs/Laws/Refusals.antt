@@ -8,8 +8,8 @@ use Rattle.codec.specs.Field.{Contents, body}
 use Rattle.codec.specs.Frame.{Outcome, accepted, refused, readFrame}
 use Rattle.codec.specs.Meaning.{lenOf}
 use Rattle.codec.specs.Laws.Within.{PlaceTo, within-body, frame-place}
+use Rattle.papers.specs.Papers.{known, paperOf}
 use Rattle.layout.specs.declared.Answer.the-variants.{Refused}
-use Rattle.layout.specs.Papers.{known, paperOf}
 use Rattle.scope.specs.Reading.{fieldOf, noRecord, shown, readOf}
 use Rattle.layout.specs.Laws.Answer.{Accepted≢Refused}
 

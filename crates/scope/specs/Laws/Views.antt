@@ -17,11 +17,11 @@ use Rattle.codec.specs.Laws.Tests.{and-in, and-l, and-r, holds}
 use Rattle.codec.specs.Laws.Field.{body-write, length-texts, text-absent}
 use Rattle.codec.specs.Laws.Frame.{Front}
 use Rattle.codec.specs.Laws.View.{view-flat, before-mono, before-most}
+use Rattle.papers.specs.Papers.{known, paperOf, itemsOf}
 use Rattle.layout.specs.declared.View.{View}
 use Rattle.layout.specs.declared.View.the-variants.{Shown, Hidden}
 use Rattle.layout.specs.declared.Which.the-variants.{Neither, Base, Correction}
 use Rattle.layout.specs.Answer.{viewNumber}
-use Rattle.layout.specs.Papers.{known, paperOf, itemsOf}
 use Rattle.scope.specs.Reading.{fieldOf}
 use Rattle.scope.specs.Views.{isItem, present, standing, viewIn, viewOf, partOf, chooseIn, chooseOf}
 use Rattle.scope.specs.Laws.Reading.{Read, read-made, one-reading, read-front}

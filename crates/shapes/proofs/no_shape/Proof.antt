@@ -3,9 +3,9 @@ use mathlib.Core.Path.{sym}
 use lib.ListN.{List·getD-eq-default}
 use Rattle.codec.specs.Item.{linesOf}
 use Rattle.codec.specs.Laws.Arms.{past}
-use Rattle.layout.specs.Cat048.{cat048}
-use Rattle.layout.specs.Cat021.{cat021}
-use Rattle.layout.specs.Cat007.{cat007}
+use Rattle.papers.specs.Cat048.{cat048}
+use Rattle.papers.specs.Cat021.{cat021}
+use Rattle.papers.specs.Cat007.{cat007}
 use Rattle.lengths.specs.Lines.{items}
 use Rattle.shapes.specs.Shapes.{NO_LINE, shapeOf, shapesFrom, shapes, shapeAt}
 use Rattle.shapes.proofs.no_shape.Statement.{statement}

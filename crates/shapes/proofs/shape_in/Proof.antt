@@ -1,9 +1,9 @@
 -- `shapes::shape_in` meets its contract, by the table's rule. Assumes nothing.
 use borrow.Author.Needs.{needs}
 use Rattle.codec.specs.Item.{linesOf}
-use Rattle.layout.specs.Cat048.{cat048}
-use Rattle.layout.specs.Cat021.{cat021}
-use Rattle.layout.specs.Cat007.{cat007}
+use Rattle.papers.specs.Cat048.{cat048}
+use Rattle.papers.specs.Cat021.{cat021}
+use Rattle.papers.specs.Cat007.{cat007}
 use Rattle.lengths.specs.Lines.{items}
 use Rattle.shapes.specs.Shapes.{NO_LINE, shapeOf, shapesFrom, shapes, shapeAt}
 use Rattle.shapes.specs.Laws.Shapes.{within}

@@ -12,9 +12,9 @@ use Rattle.codec.specs.Pick.{pick}
 use Rattle.codec.specs.Line.{Line, count}
 use Rattle.codec.specs.Item.{Item, single, slotsOf, linesOf}
 use Rattle.codec.specs.Laws.Tests.{and-l, and-r}
-use Rattle.layout.specs.Cat048.{cat048}
-use Rattle.layout.specs.Cat021.{cat021}
-use Rattle.layout.specs.Cat007.{cat007}
+use Rattle.papers.specs.Cat048.{cat048}
+use Rattle.papers.specs.Cat021.{cat021}
+use Rattle.papers.specs.Cat007.{cat007}
 use Rattle.lengths.specs.Lines.{items, noLine, placedFrom, placedIn, placed, placedAt, lineAt, firstAt}
 use Rattle.lengths.specs.Laws.Lines.{every-at}
 use Rattle.shapes.specs.declared.Shape.{Shape}

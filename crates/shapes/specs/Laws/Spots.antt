@@ -10,11 +10,11 @@ use lib.ListN.{length}
 use Rattle.codec.specs.Pick.{pick}
 use Rattle.codec.specs.Line.{count}
 use Rattle.codec.specs.Item.{Item, slotsOf, slots}
-use Rattle.layout.specs.Cat048.{cat048}
-use Rattle.layout.specs.Cat021.{cat021}
-use Rattle.layout.specs.Cat007.{cat007}
-use Rattle.layout.specs.Papers.{known, paperOf, itemsOf}
-use Rattle.layout.specs.Laws.Papers.{paper-048, paper-021, paper-007, few-items}
+use Rattle.papers.specs.Cat048.{cat048}
+use Rattle.papers.specs.Cat021.{cat021}
+use Rattle.papers.specs.Cat007.{cat007}
+use Rattle.papers.specs.Papers.{known, paperOf, itemsOf}
+use Rattle.papers.specs.Laws.Papers.{paper-048, paper-021, paper-007, few-items}
 use Rattle.lengths.specs.Lines.{items}
 use Rattle.shapes.specs.Shapes.{itemAt}
 use Rattle.shapes.specs.Spots.{spotsFrom, spots, spotAt, spotOf, spotOk, rowOk, itemsFrom}

@@ -14,7 +14,7 @@ use borrow.Fn.PlainCycle.{Measures, is, falls, and}
 use Rattle.sheet.proofs.names.Reads as names
 use Rattle.sheet.proofs.names.Kinds as names-kinds
 use Rattle.sheet.proofs.+names.Lts-names as names-lts
-use Rattle.layout.proofs.present.Reads as present-reads
+use Rattle.flags.proofs.present.Reads as present-reads
 use Rattle.sheet.proofs.comma.Reads as comma-reads
 use Rattle.sheet.proofs.name.Reads as name-reads
 use Rattle.leaves.proofs.wide.Reads as wide-reads

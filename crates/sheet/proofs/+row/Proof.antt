@@ -11,7 +11,7 @@ use borrow.Fn.PlainCycle.{Measures, is, falls, and}
 use Rattle.sheet.proofs.row.Reads as row
 use Rattle.sheet.proofs.row.Kinds as row-kinds
 use Rattle.sheet.proofs.+row.Lts-row as row-lts
-use Rattle.layout.proofs.present.Reads as present-reads
+use Rattle.flags.proofs.present.Reads as present-reads
 use Rattle.sheet.proofs.place.Reads as place-reads
 use Rattle.sheet.proofs.+row.{statement}
 use Rattle.sheet.proofs.+row.Tie.{close}

@@ -4,7 +4,7 @@ use Prim.Native.Nat.{ℕ, suc, _≤_, zero-le}
 use native.Mathlib.Omega.{arith}
 use borrow.Author.Needs.{needs}
 use denote.Ref.{now}
-use Rattle.layout.specs.Names.{names048, names021, names007}
+use Rattle.papers.specs.Names.{names048, names021, names007}
 use Rattle.sheet.specs.Items.{named, namedAt}
 use Rattle.sheet.specs.Laws.Rows.{name-arm, name-past}
 use Rattle.sheet.proofs.name.Statement.{statement}

@@ -8,7 +8,7 @@ use native.Mathlib.Omega.{arith}
 use lib.IntN.{ℤ}
 use lib.ListN.{length, getD, take, drop, length-drop, drop-of-length-le}
 use lib.Seq.{take-suc, drop-cons, getD-drop}
-use Rattle.layout.specs.Names.{Key}
+use Rattle.papers.specs.Names.{Key}
 use Rattle.layout.specs.Record.{numberAt}
 use Rattle.scope.specs.Sheet.{numberText}
 use Rattle.text.specs.Typing.{Types}

@@ -12,10 +12,10 @@ use Rattle.codec.specs.Pick.{pick}
 use Rattle.codec.specs.Line.{Line, count}
 use Rattle.codec.specs.Item.{Item, single, slotsOf, slots, linesOf, isOne}
 use Rattle.codec.specs.Laws.Tests.{and-in, and-l, and-r}
-use Rattle.layout.specs.Cat048.{cat048}
-use Rattle.layout.specs.Cat021.{cat021}
-use Rattle.layout.specs.Cat007.{cat007}
-use Rattle.layout.specs.Names.{Key, Named, names048, names021, names007}
+use Rattle.papers.specs.Cat048.{cat048}
+use Rattle.papers.specs.Cat021.{cat021}
+use Rattle.papers.specs.Cat007.{cat007}
+use Rattle.papers.specs.Names.{Key, Named, names048, names021, names007}
 use Rattle.layout.specs.Record.{numberAt}
 use Rattle.layout.specs.Laws.Slots.{Holds, holds-take, holds-drop}
 use Rattle.scope.specs.Sheet.{decimal, keyLine, numberText, numbersText, chainText, itemText, partsThere, subfieldsThere, linesThere, linesText}

@@ -3,7 +3,7 @@
 use mathlib.Core.List.{List, [], _∷_}
 use Prim.Native.Nat.{ℕ, zero, suc}
 use lib.ListN.{take, drop}
-use Rattle.layout.specs.Names.{Key}
+use Rattle.papers.specs.Names.{Key}
 use Rattle.sheet.specs.Keys.{keysFrom, span}
 
 -- the keys of so many groups

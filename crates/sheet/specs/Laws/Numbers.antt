@@ -12,7 +12,7 @@ use lib.Signed.{mag}
 use mir.Syntax.{w32, w64}
 use mir.Val.{SFits}
 use Rattle.codec.specs.Pick.{pick}
-use Rattle.layout.specs.Names.{text, Key, hidden, shown, angle, pressure}
+use Rattle.papers.specs.Names.{text, Key, hidden, shown, angle, pressure}
 use Rattle.layout.specs.Record.{numberAt}
 use Rattle.scope.specs.Angle.{udegOf}
 use Rattle.scope.specs.Sheet.{keyLine, signedDecimal, numberText}

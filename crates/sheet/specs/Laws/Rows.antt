@@ -11,7 +11,7 @@ use Rattle.codec.specs.Pick.{pick}
 use Rattle.codec.specs.Line.{Held}
 use Rattle.codec.specs.Item.{Item, slots}
 use Rattle.codec.specs.Field.{uncons}
-use Rattle.layout.specs.Names.{text, Named, names048, names021, names007}
+use Rattle.papers.specs.Names.{text, Named, names048, names021, names007}
 use Rattle.layout.specs.Laws.Slots.{Holds, holds-item}
 use Rattle.scope.specs.Sheet.{itemText, rowText, itemsText}
 use Rattle.shapes.specs.Spots.{spotAt, itemOn, spotOk, rowOk, itemsFrom, numbersOn, heldFrom}
@@ -20,7 +20,7 @@ use Rattle.text.specs.Typing.{Types}
 use Rattle.text.specs.Laws.Typing.{types-as, types-behind, types-none}
 use Rattle.sheet.specs.Items.{nobody, named, namedAt, ItemTyped}
 use Rattle.sheet.specs.Rows.{namedOn, namesFrom, placeText, commaOf}
-use Rattle.layout.specs.Record.{SLOTS}
+use Rattle.papers.specs.Papers.{SLOTS}
 
 names-on : (k left : ℕ) → (left ≡ 0 → ⊥) → namesFrom k left ≡ namedOn k ∷ namesFrom (k + 1) (left - 1)
 unfolding namesFrom

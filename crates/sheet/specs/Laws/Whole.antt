@@ -16,16 +16,16 @@ use Rattle.codec.specs.Frame.{Outcome, accepted, refused, okayFrame}
 use Rattle.codec.specs.Meaning.{lenOf}
 use Rattle.codec.specs.Laws.Tests.{and-l}
 use Rattle.codec.specs.Laws.Field.{row-okay}
-use Rattle.layout.specs.Cat048.{cat048}
-use Rattle.layout.specs.Cat021.{cat021}
-use Rattle.layout.specs.Cat007.{cat007}
+use Rattle.papers.specs.Cat048.{cat048}
+use Rattle.papers.specs.Cat021.{cat021}
+use Rattle.papers.specs.Cat007.{cat007}
+use Rattle.papers.specs.Names.{text, names048, names021, names007, namesOf}
+use Rattle.papers.specs.Papers.{known, paperOf, itemsOf, SLOTS, allSlots}
+use Rattle.papers.specs.Laws.Papers.{few-slots}
 use Rattle.layout.specs.declared.Record.{Record}
 use Rattle.layout.specs.declared.Reading.{Reading}
 use Rattle.layout.specs.declared.Answer.the-variants.{Accepted, Refused}
-use Rattle.layout.specs.Names.{text, names048, names021, names007, namesOf}
-use Rattle.layout.specs.Papers.{known, paperOf, itemsOf}
-use Rattle.layout.specs.Record.{SLOTS, regroup, flatten, unflatten, allNumbers, allSlots}
-use Rattle.layout.specs.Laws.Papers.{few-slots}
+use Rattle.layout.specs.Record.{regroup, flatten, unflatten, allNumbers}
 use Rattle.layout.specs.Laws.Record.{unflatten-flatten, length-numbers}
 use Rattle.scope.specs.Reading.{fieldOf, shown, readOf}
 use Rattle.scope.specs.Sheet.{decimal, keyLine, rowText, itemsText, refusalText, fieldText, sheetOf}

@@ -11,13 +11,13 @@ use Rattle.codec.specs.Codec.{Octets}
 use Rattle.codec.specs.Item.{Item}
 use Rattle.codec.specs.Field.{Contents, body}
 use Rattle.codec.specs.Frame.{Outcome, accepted, refused, readFrame}
+use Rattle.papers.specs.Papers.{known, paperOf}
 use Rattle.layout.specs.declared.Answer.the-variants.{Accepted, Refused}
 use Rattle.layout.specs.declared.View.{View}
 use Rattle.layout.specs.declared.View.the-variants.{Shown, Hidden}
 use Rattle.layout.specs.declared.Which.{Which}
 use Rattle.layout.specs.declared.Which.the-variants.{Neither, Base, Correction}
 use Rattle.layout.specs.declared.Choice.{Choice}
-use Rattle.layout.specs.Papers.{known, paperOf}
 use Rattle.scope.specs.Reading.{fieldOf}
 use Rattle.scope.specs.Views.{isItem, present, standing, viewIn, viewOf, partOf, chooseIn, chooseOf, sideOf, chosenOf}
 use Rattle.layout.specs.Laws.Answer.{Accepted≢Refused, Refused≢Accepted}

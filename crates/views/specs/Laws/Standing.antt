@@ -10,8 +10,8 @@ use Rattle.codec.specs.Pick.{pick}
 use Rattle.codec.specs.Field.{flags}
 use Rattle.layout.specs.declared.View.the-variants.{Shown, Hidden}
 use Rattle.codec.specs.Laws.Tests.{and-l, and-r}
-use Rattle.layout.specs.Papers.{paperOf, itemsOf, numbered}
-use Rattle.layout.specs.Laws.Papers.{few-items}
+use Rattle.papers.specs.Papers.{paperOf, itemsOf, numbered}
+use Rattle.papers.specs.Laws.Papers.{few-items}
 use Rattle.scope.specs.Views.{isItem}
 use Rattle.views.specs.Standing.{Rising, standsAt}
 

@@ -12,10 +12,10 @@ use Rattle.codec.specs.Field.{Contents, textsOf, before}
 use Rattle.codec.specs.Frame.{Outcome, accepted, refused}
 use Rattle.codec.specs.Meaning.{lenOf}
 use Rattle.codec.specs.Laws.Tests.{and-l, and-r}
+use Rattle.papers.specs.Papers.{paperOf, itemsOf}
 use Rattle.layout.specs.declared.Answer.the-variants.{Accepted, Refused}
 use Rattle.layout.specs.declared.View.{View}
 use Rattle.layout.specs.declared.View.the-variants.{Shown, Hidden}
-use Rattle.layout.specs.Papers.{paperOf, itemsOf}
 use Rattle.scope.specs.Reading.{fieldOf}
 use Rattle.scope.specs.Views.{isItem, present, standing, viewIn, viewOf}
 use Rattle.layout.specs.Laws.Answer.{Accepted≢Refused, Refused≢Accepted}

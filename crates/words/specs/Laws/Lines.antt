@@ -1,6 +1,6 @@
 -- The first word of a line by place: one law for each way through the code.
-use mathlib.Core.Path.{_≡_, refl, ap, _∙_}
-use mathlib.Core.Bool.{Bool, true, false, _&&_}
+use mathlib.Core.Path.{_≡_, refl}
+use mathlib.Core.Bool.{Bool, true, false}
 use mathlib.Core.List.{List, [], _∷_}
 use Prim.Native.Nat.{ℕ, zero, suc, _+_, _-_, _≤_, _<_}
 use native.Mathlib.Numerals.{add-one}
@@ -42,13 +42,22 @@ word-within (o ∷ s) = within (eqb o 32) (word-within s)
     within true h = omega arith
     within false h = omega arith
 
-module _ (s : List ℕ) {e : ℕ} (at : e ≡ 0 + wordLength s) where
-  pub end-within : e ≤ length s
-  end-within = omega (arith, word-within s)
+-- the place behind the word that starts at a place within the line
+module _ (s : List ℕ) (at : ℕ) (h : at ≤ length s) {e : ℕ} (stop : e ≡ at + wordLength (drop at s)) where
+  pub end-later : at ≤ e
+  end-later = omega arith
 
-  pub word-front : take e s ≡ wordOf s
+  pub end-within : e ≤ length s
+  end-within = omega (arith, word-within (drop at s), length-drop at s)
+
+  pub word-cut : take (e - at) (drop at s) ≡ wordOf (drop at s)
   unfolding wordOf
-  word-front = let h : e ≡ wordLength s = omega arith in rw h refl
+  word-cut = let k : e - at ≡ wordLength (drop at s) = omega arith in rw k refl
+
+-- no word starts past the end
+pub word-past : (s : List ℕ) (at : ℕ) → length s < at → take 0 s ≡ wordOf (drop at s)
+unfolding wordOf wordLength
+word-past s at h = rw (drop-of-length-le s {i = at} (omega arith)) refl
 
 -- a word without its first octet
 pub inside-some : (s : List ℕ) → take (length s - 1) (drop 1 s) ≡ drop 1 s

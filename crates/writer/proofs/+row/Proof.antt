@@ -14,7 +14,7 @@ use borrow.Fn.PlainCycle.{Measures, is, falls, and}
 use Rattle.writer.proofs.row.Reads as row
 use Rattle.writer.proofs.row.Kinds as row-kinds
 use Rattle.writer.proofs.+row.Lts-row as row-lts
-use Rattle.layout.proofs.present.Reads as present-reads
+use Rattle.flags.proofs.present.Reads as present-reads
 use Rattle.writer.proofs.place.Reads as place-reads
 use Rattle.writer.proofs.+row.{statement}
 use Rattle.writer.proofs.+row.Tie.{close}

@@ -8,11 +8,11 @@ use lib.ListN.{length, take, drop, take-append-drop}
 use lib.Seq.{take-append-seam}
 use Rattle.codec.specs.Codec.{Octets}
 use Rattle.codec.specs.Laws.Tests.{holds}
+use Rattle.papers.specs.Papers.{known}
 use Rattle.layout.specs.declared.Record.{Record}
 use Rattle.layout.specs.declared.Reading.{Reading}
 use Rattle.layout.specs.declared.Answer.{Answer}
 use Rattle.layout.specs.declared.Answer.the-variants.{Accepted, Refused}
-use Rattle.layout.specs.Papers.{known}
 use Rattle.scope.specs.Reading.{noRecord, readOf}
 use Rattle.scope.specs.Writing.{writable, written}
 use Rattle.scope.specs.Outputs.{answerOf}

@@ -17,9 +17,9 @@ use Rattle.codec.specs.Laws.Tests.{and-l, and-r}
 use Rattle.codec.specs.Laws.Radix.{cut-one}
 use Rattle.codec.specs.Laws.Field.{row-okay}
 use Rattle.codec.specs.Laws.Longest.{field-size}
-use Rattle.layout.specs.Papers.{LONGEST, known, paperOf, itemsOf}
+use Rattle.papers.specs.Papers.{LONGEST, known, paperOf, itemsOf}
+use Rattle.papers.specs.Laws.Papers.{few-octets}
 use Rattle.layout.specs.Record.{regroup, unflatten, fitsPaper, contents}
-use Rattle.layout.specs.Laws.Papers.{few-octets}
 use Rattle.scope.specs.Writing.{writable, written}
 use Rattle.shapes.specs.Spots.{spotAt, spotOf, itemsFrom, heldFrom}
 use Rattle.shapes.specs.Laws.Spots.{Spots, spots-right}

@@ -26,7 +26,7 @@ use Rattle.layout.specs.Laws.Slots.{Holds}
 use Rattle.writer.specs.Digits.{gathered}
 use Rattle.writer.specs.Laws.Digits.{gathered-lt, gathered-are}
 use Rattle.writer.specs.Laying.{Lays}
-use Rattle.layout.specs.Papers.{LONGEST}
+use Rattle.papers.specs.Papers.{LONGEST}
 
 -- ---- the ways out of `spill`
 

@@ -17,7 +17,7 @@ use Rattle.shapes.specs.Laws.Runs.{first-drop, next-drop, items-on, held-on}
 use Rattle.writer.specs.Laying.{Lays}
 use Rattle.writer.specs.Laws.Laying.{lays-via, lays-there, lays-none, lays-absent, lays-seq}
 use Rattle.writer.specs.Rows.{placeOn}
-use Rattle.layout.specs.Record.{SLOTS}
+use Rattle.papers.specs.Papers.{SLOTS}
 
 module _ (k n : ℕ) (ns : List ℤ) {t : Bool} where
   pub place-there : t ≡ true → T (spotOk k) → {j base : ℕ} → j ≡ spotAt k .0 → base ≡ spotAt k .1 → {l m : List ℕ} {at next : ℕ}

@@ -1,37 +1,21 @@
 -- What `write` answers and leaves: the field of a record in front of the output, or the output as it was.
 use mathlib.Core.Path.{_≡_, refl, sym, ap, _∙_, subst}
 use mathlib.Core.Bool.{Bool, true, false}
-use mathlib.Core.List.{List, [], _∷_, _++_}
-use Prim.Native.Nat.{ℕ, zero, suc, _+_, _≤_, _<_}
+use mathlib.Core.List.{List}
+use Prim.Native.Nat.{ℕ, _≤_}
 use native.Mathlib.Omega.{arith}
-use lib.Dec.{T, leb}
-use lib.ListN.{length, take, drop, length-take}
-use lib.Seq.{take-all}
-use borrow.Author.Tests.{le-leb, lt-leb}
+use lib.Dec.{T}
+use lib.ListN.{length, take, length-take}
 use Rattle.codec.specs.Pick.{pick}
 use Rattle.codec.specs.Frame.{accepted, refused}
+use Rattle.papers.specs.Papers.{known}
 use Rattle.layout.specs.declared.Record.{Record}
 use Rattle.layout.specs.declared.Answer.{Answer}
 use Rattle.layout.specs.declared.Answer.the-variants.{Accepted, Refused}
-use Rattle.layout.specs.Papers.{known}
 use Rattle.scope.specs.Writing.{writable, written, writeOf, Wrote}
 use Rattle.scope.specs.Outputs.{withRoom, answerOf, after, Leaves}
 use Rattle.layout.specs.Laws.Answer.{Refused≢Accepted, Accepted≢Refused}
 use Rattle.writer.specs.Checked.{Checked}
-
--- ---- the ways out of `deliver`
-
-module _ (s out : List ℕ) where
-  pub delivered : length s ≤ length out → {n : ℕ} → n ≡ length s → {out′ : List ℕ} → out′ ≡ take (length s) s ++ drop (length s) out → Leaves (withRoom (length out) s) out (Accepted n) out′
-  unfolding withRoom answerOf after
-  delivered h en eo =
-      let e : leb (length s) (length out) ≡ true = le-leb (length s) (length out) h in
-      record { answer = rw e (ap Accepted en); output = eo ∙ ap (_++ drop (length s) out) (take-all (length s) s (omega arith)) ∙ rw e refl }
-
-  -- 11 for an output that is shorter than the octets
-  pub no-room : length out < length s → Leaves (withRoom (length out) s) out (Refused 11 0) out
-  unfolding withRoom answerOf after
-  no-room h = let e : leb (length s) (length out) ≡ false = lt-leb (length s) (length out) h in record { answer = rw e refl; output = rw e refl }
 
 -- ---- the ways out of `write`
 

@@ -1,8 +1,7 @@
 -- `reader::lines::piece` meets its contract: one law at each way out. Assumes nothing.
 use mathlib.Core.Path.{_≡_, refl, sym, ap, _∙_, subst}
-use Prim.Native.Nat.{ℕ, _^_, _/_, _%_, _<_}
+use Prim.Native.Nat.{_^_, _/_, _%_, _<_}
 use native.Mathlib.Nat.{mod-lt}
-use native.Mathlib.Omega.{arith}
 use borrow.Author.Needs.{needs, sfits-of}
 use denote.Ref.{now}
 use lib.Pow.{pow-pos}

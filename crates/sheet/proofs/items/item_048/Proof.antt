@@ -4,10 +4,10 @@ use native.Mathlib.Omega.{arith}
 use borrow.Author.Needs.{needs}
 use denote.Ref.{now}
 use Rattle.codec.specs.Item.{linesOf}
-use Rattle.layout.specs.Cat048.{cat048}
-use Rattle.layout.specs.Cat021.{cat021}
-use Rattle.layout.specs.Cat007.{cat007}
-use Rattle.layout.specs.Names.{text, names048, names021, names007}
+use Rattle.papers.specs.Cat048.{cat048}
+use Rattle.papers.specs.Cat021.{cat021}
+use Rattle.papers.specs.Cat007.{cat007}
+use Rattle.papers.specs.Names.{text, names048, names021, names007}
 use Rattle.scope.specs.Sheet.{chainText}
 use Rattle.lengths.specs.Lines.{items}
 use Rattle.shapes.specs.Shapes.{itemAt}

@@ -3,7 +3,7 @@ use borrow.Author.Needs.{needs, sfits-of}
 use denote.Ref.{now}
 use mir.Syntax.{w32}
 use mir.Facts.{toZ-ofZ}
-use Rattle.layout.specs.Names.{text}
+use Rattle.papers.specs.Names.{text}
 use Rattle.text.specs.Laws.Typing.{types-behind}
 use Rattle.sheet.specs.Laws.Numbers.{coordinate-key}
 use Rattle.sheet.proofs.numbers.position_lines.Statement.{statement}

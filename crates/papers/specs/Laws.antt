@@ -1,0 +1,3 @@
+-- What follows from the definitions, a file for each of theirs.
+pub mod Papers
+pub mod Names

@@ -1,0 +1,125 @@
+-- What holds of every paper, by computed tests.
+use mathlib.Core.Path.{_≡_, refl, subst}
+use mathlib.Core.Bool.{Bool, true, false}
+use mathlib.Core.List.{List, []}
+use Prim.Native.Nat.{ℕ, _≤_}
+use lib.Dec.{T, eqb, leb, leb→le}
+use lib.ListN.{length, drop}
+use borrow.Author.Tests.{ne-eqb}
+use Rattle.codec.specs.Pick.{pick}
+use Rattle.codec.specs.Line.{count}
+use Rattle.codec.specs.Item.{Item, slotsOf, slots, octetsOf, longestItem}
+use Rattle.codec.specs.Field.{goodItems, longestRow, longest}
+use Rattle.codec.specs.Printed.{Entry, adjacent, rightAll, rightFlags, rightEntry, right}
+use Rattle.codec.specs.Made.{made}
+use Rattle.codec.specs.Laws.Alone.{leastItem, someOctets}
+use Rattle.codec.specs.Laws.Meaning.{right-good}
+use Rattle.papers.specs.Cat048.{printed048, cat048}
+use Rattle.papers.specs.Cat021.{printed021, cat021}
+use Rattle.papers.specs.Cat007.{printed007, cat007}
+use Rattle.papers.specs.Papers.{LONGEST, known, paperOf, printedOf, itemsOf, longestOf, SLOTS, allSlots}
+
+-- a fact of each paper, and of no paper, is a fact of every category's
+pub by-paper : (P : List Item → Type 0) → P cat048 → P cat021 → P cat007 → P [] → (cat : ℕ) → P (paperOf cat)
+unfolding paperOf
+by-paper P a b c d cat = go (eqb cat 48) (eqb cat 21) (eqb cat 7)
+  where
+    go : (x y z : Bool) → P (pick x cat048 (pick y cat021 (pick z cat007 [])))
+    go true y z = a
+    go false true z = b
+    go false false true = c
+    go false false false = d
+
+pub by-printed : (P : List Entry → Type 0) → P printed048 → P printed021 → P printed007 → P [] → (cat : ℕ) → P (printedOf cat)
+unfolding printedOf
+by-printed P a b c d cat = go (eqb cat 48) (eqb cat 21) (eqb cat 7)
+  where
+    go : (x y z : Bool) → P (pick x printed048 (pick y printed021 (pick z printed007 [])))
+    go true y z = a
+    go false true z = b
+    go false false true = c
+    go false false false = d
+
+-- each paper is made from what is printed
+pub made-paper : (cat : ℕ) → made (printedOf cat) ≡ paperOf cat
+unfolding paperOf printedOf cat048 cat021 cat007
+made-paper cat = go (eqb cat 48) (eqb cat 21) (eqb cat 7)
+  where
+    go : (x y z : Bool) → made (pick x printed048 (pick y printed021 (pick z printed007 []))) ≡ pick x cat048 (pick y cat021 (pick z cat007 []))
+    go true y z = refl
+    go false true z = refl
+    go false false true = refl
+    go false false false = refl
+
+-- the runs of every structure follow each other from its highest bit down, and the bits of a primary subfield have the names of the subfields
+pub right-paper : (cat : ℕ) → T (right (printedOf cat))
+unfolding right rightEntry rightAll rightFlags adjacent printed048 printed021 printed007
+right-paper cat = by-printed (λ es. T (right es)) tt tt tt tt cat
+
+-- so every line fills its octets
+pub good-paper : (cat : ℕ) → T (goodItems (paperOf cat))
+good-paper cat = subst (λ its. T (goodItems its)) (made-paper cat) (right-good (printedOf cat) (right-paper cat))
+
+pub few-printed : (cat : ℕ) → length (printedOf cat) ≤ 8
+unfolding printed048 printed021 printed007
+few-printed cat = leb→le (length (printedOf cat)) 8 (by-printed (λ es. T (leb (length es) 8)) tt tt tt tt cat)
+
+-- at most eight items, 77 numbers, 52 octets
+pub few-items : (cat : ℕ) → itemsOf cat ≤ 8
+unfolding cat048 cat021 cat007
+few-items cat = leb→le (itemsOf cat) 8 (by-paper (λ its. T (leb (length its) 8)) tt tt tt tt cat)
+
+pub few-slots : (cat : ℕ) → allSlots (paperOf cat) ≤ SLOTS
+unfolding allSlots slots slotsOf count cat048 cat021 cat007
+few-slots cat = leb→le (allSlots (paperOf cat)) SLOTS (by-paper (λ its. T (leb (allSlots its) SLOTS)) tt tt tt tt cat)
+
+pub few-octets : (cat : ℕ) → longestOf cat ≤ LONGEST
+unfolding longest longestRow longestItem octetsOf cat048 cat021 cat007
+few-octets cat = leb→le (longestOf cat) LONGEST (by-paper (λ its. T (leb (longest its) LONGEST)) tt tt tt tt cat)
+
+-- every item has an octet at least
+pub some-octets : (cat : ℕ) → T (someOctets (paperOf cat))
+unfolding someOctets leastItem cat048 cat021 cat007
+some-octets cat = by-paper (λ its. T (someOctets its)) tt tt tt tt cat
+
+-- documents 000 and 004 lay out M5N, M4E, RPC and ERR alike
+pub items-shared : drop 1 cat007 ≡ drop 1 cat048
+unfolding cat048 cat007
+items-shared = refl
+
+-- ---- the paper of each category
+
+module _ (cat : ℕ) where
+  pub paper-048 : cat ≡ 48 → (paperOf cat ≡ cat048) × (known cat ≡ true)
+  unfolding paperOf known
+  paper-048 e = (rw e, rw e)
+
+  pub paper-021 : cat ≡ 21 → (paperOf cat ≡ cat021) × (known cat ≡ true)
+  unfolding paperOf known
+  paper-021 e = (rw e, rw e)
+
+  pub paper-007 : cat ≡ 7 → (paperOf cat ≡ cat007) × (known cat ≡ true)
+  unfolding paperOf known
+  paper-007 e = (rw e, rw e)
+
+  pub paper-none : (cat ≡ 48 → ⊥) → (cat ≡ 21 → ⊥) → (cat ≡ 7 → ⊥) → (paperOf cat ≡ []) × (known cat ≡ false)
+  unfolding paperOf known
+  paper-none a b c =
+      (rw (ne-eqb cat 48 a, ne-eqb cat 21 b, ne-eqb cat 7 c) refl, rw (ne-eqb cat 48 a, ne-eqb cat 21 b, ne-eqb cat 7 c) refl)
+
+-- the three numbers of each category
+pub numbers-048 : (length cat048 ≡ 5) × (longest cat048 ≡ 52)
+unfolding longest longestRow longestItem octetsOf cat048
+numbers-048 = (refl, refl)
+
+pub numbers-021 : (length cat021 ≡ 8) × (longest cat021 ≡ 31)
+unfolding longest longestRow longestItem octetsOf cat021
+numbers-021 = (refl, refl)
+
+pub numbers-007 : (length cat007 ≡ 5) × (longest cat007 ≡ 38)
+unfolding longest longestRow longestItem octetsOf cat007
+numbers-007 = (refl, refl)
+
+pub numbers-none : (length {A = Item} [] ≡ 0) × (longest [] ≡ 2)
+unfolding longest longestRow
+numbers-none = (refl, refl)
