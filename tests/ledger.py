@@ -21,23 +21,25 @@ SECONDS = ROOT / "target" / "crate-seconds.json"
 PROMISES = [
     ("codec", "the definitions of the format: laws of codecs, chains, frames and edits"),
     ("leaves", "`wide`, `wide64`, `octet`, `octet64`, `less`, `less64`, `front`"),
-    ("layout", "the papers as data; `is_known`, `items_of`, `longest_of`, `is_item`, `present`, `with_item`, "
-               "`without_item`, `number_at`, `is_one`, `which_number`"),
+    ("flags", "`present`, `with_item`, `without_item`, `is_one`"),
+    ("papers", "the papers as data: whole, alike where two papers are, and reading the specimens"),
+    ("layout", "`is_known`, `items_of`, `longest_of`, `is_item`, `number_at`, `which_number`"),
     ("scope", "01's operations as definitions: the edge octets and sheets computed from them"),
+    ("outputs", "`deliver`"),
     ("demands", "the three demands, and that the program which `scope` defines meets them"),
     ("lengths", "`format_of`"),
     ("shapes", "`shape_at`, `spot_at`, `spot_of`"),
     ("reader", "`read`, `survey`"),
     ("views", "`view_answer`, `view`, `choose_answer`, `choose`"),
     ("angle", "`udeg`"),
-    ("writer", "`write`, `deliver`"),
+    ("writer", "`write`"),
     ("desk", "`remove`, `replace`"),
     ("text", "`octet`, `word`, `decimal`, `signed`, `octets`, `line_end`, `pair`, `signed_pair`"),
     ("longest", "the longest sheet"),
     ("sheet", "`sheet`, `listed`"),
-    ("words", "`word`, `number`, `signed`, `small`, `room`, `whole`"),
+    ("words", "`word_at`, `number`, `signed`, `small`, `room`, `whole`"),
     ("hex", "`is_octets`, `octets`, `is_list`, `list`"),
-    ("protocol", "`parse`, `word_at`, `record_at`"),
+    ("protocol", "`parse`, `record_at`"),
     ("replies", "`bad_request`, `refusal`, `left`, `view_text`, `choice_text`, `reading_text`, `sheet_text`"),
     ("requests", "`answer`"),
     ("lines", "`join`"),
@@ -112,6 +114,69 @@ def edits_of_crates():
     missing = set(ROOT.glob("crates/*/must-fail/*.edit")) - {path for found in edits.values() for path in found}
     assert not missing, missing
     return {crate: found for crate, found in edits.items() if found}
+
+
+# ---- which of them each public function has: those whose changed line it runs or looks up
+
+# the functions for C hand their arguments on, and one wrong program is enough for each
+DOORS = {"exports"}
+
+ITEM = re.compile(r" *(pub )?(?:extern \"C\" )?(?:fn|const) (\w+)")
+
+
+def items_of(crate):
+    """The functions and constants of a crate's source: file, name, whether it is a public function of the root, first
+    line and text."""
+    found = []
+    for file in sorted((ROOT / "crates" / crate / "src").rglob("*.rt")):
+        lines = file.read_text().splitlines()
+        heads = [(at, ITEM.match(line)) for at, line in enumerate(lines)]
+        heads = [(at, head) for at, head in heads if head] + [(len(lines), None)]
+        for (at, head), (end, _) in zip(heads, heads[1:]):
+            public = bool(head[1]) and "fn " in head[0] and file.name == "lib.rt"
+            found.append((file.name, head[2], public, at, "\n".join(lines[at:end])))
+    return found
+
+
+def wrong_programs(crate, edits):
+    """Each public function of a crate, and the edits of the items that it comes to by calls and constants, itself
+    among them."""
+    items = items_of(crate)
+    modules = {Path(file).stem for file, *_ in items}
+    named = {}
+    for _, name, _, _, text in items:
+        named.setdefault(name, set()).update(names_in(text, modules))
+    touched = {}
+    for edit in edits:
+        file = re.search(r"^file: src/(.*)$", edit.read_text(), re.M)
+        for old, _ in parts(edit)[1] if file else []:
+            source = ROOT / "crates" / crate / "src" / file[1]
+            line = source.read_text().partition(old)[0].count("\n")
+            inside = [name for item, name, _, at, _ in items if item == file[1] and at <= line]
+            touched.setdefault(inside[-1], []).append(edit.stem)
+    return {name: [edit for item in sorted(reached(name, named)) for edit in touched.get(item, [])]
+            for _, name, public, *_ in items if public}
+
+
+def names_in(text, modules):
+    """The crate's own functions that are called in an item, and the constants that stand in it."""
+    code = re.sub(r"//.*", "", text)
+    calls = re.findall(r"(?:(\w+)::)?(\w+)\(", code)
+    return {name for place, name in calls if not place or place in modules} | set(re.findall(r"\b[A-Z][A-Z_0-9]+\b", code))
+
+
+def reached(name, named):
+    seen, new = set(), {name}
+    while new:
+        seen |= new
+        new = {other for item in new for other in named.get(item, ())} - seen
+    return seen
+
+
+def wanting():
+    """The public functions with fewer wrong programs than they must have."""
+    return [f"{crate}::{name}" for crate, edits in edits_of_crates().items()
+            for name, found in wrong_programs(crate, edits).items() if len(found) < (1 if crate in DOORS else 2)]
 
 
 # ---- what the edits take: each proves its crate again
@@ -194,6 +259,8 @@ def main(words):
             why, pairs = parts(edit)
             what = "; ".join(changed(*pair) for pair in pairs)
             print(f"| `{edit.stem}` | {what} | {why} | {refused_in(crate, edit.stem)} |")
+        for name, found in wrong_programs(crate, edits[crate]).items():
+            print(f"\n`{name}`: {', '.join(found)}.")
 
 
 if __name__ == "__main__":

@@ -1,6 +1,8 @@
 #!/usr/bin/env python3
 """01's worked octets, edits and longest fields, and edits and records written by hand, held against the reference implementation of the tests;
-and the papers' data of crates/layout, as tests/slots.py takes it, held against the transcription of the tests."""
+and the papers' data of crates/papers, as tests/slots.py takes it, held against the transcription of the tests. And that each public function has its wrong
+programs, as tests/ledger.py counts them."""
+import ledger
 import slots
 from edits import BASE, WORKED
 from papers import MEASURES, PAPERS
@@ -153,7 +155,7 @@ WRITES = [  # by hand from 01 and the papers: category, items, {item: parts}, {s
 ]
 
 
-# ---- crates/layout by tests/slots.py, against tests/papers.py
+# ---- crates/papers by tests/slots.py, against tests/papers.py
 
 KINDS = {(False, None): "u", (True, None): "s", (True, (-4194304, 4194304)): "lat", (True, (-40, 8191)): "ga"}
 OTHER_NAMES = {(21, "True North Heading"): "TNH"}  # the number has no short name in document 003
@@ -235,6 +237,7 @@ for name, cat, field, *_ in requests():  # what is read is written again, as it 
         assert write(got[2], got[1]) == ("ok", field[:got[1]]), field
         checks += 1
 assert slots.differing() == [], "python3 tests/slots.py write"
+assert ledger.wanting() == [], "two wrong programs for each public function, one for a function that only hands on"
 assert set(MEASURES) <= {(cat, row.key) for cat in PAPERS for row in slots.rows(slots.paper(cat))}
 checks += sum(same_paper(cat) for cat in PAPERS)
 assert [longest(c) for c in (48, 21, 7)] == [52, 31, 38]
@@ -243,4 +246,4 @@ assert view(48, BASE, 5) == ("ok", 3, 3, h("01 00 00"))
 assert choose(48, BASE, h("03 20 04"), 3) == ("ok", 2, 2, 1, h("04"))
 assert sheet(h("30 06 28 06 01 00 00")) == "cat=48\nlen=6\nitems=M4E,ERR\nM4E=3\nERR=65536\nend=ok\n"
 assert [udeg(n) for n in (1, 16384, -16384, 4194304)] == [21, 351563, -351563, 90000000]
-print(f"{checks + 8} passed, 0 failed")
+print(f"{checks + 9} passed, 0 failed")
