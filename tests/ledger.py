@@ -232,6 +232,20 @@ def cost(edits):
 # ---- the page
 
 
+def section(crate, promise, edits):
+    print(f"\n## {crate}: {promise}\n")
+    print("| edit | changed | the fact | refused in |\n|---|---|---|---|")
+    for edit in edits:
+        why, pairs = parts(edit)
+        what = "; ".join(changed(*pair) for pair in pairs)
+        print(f"| `{edit.stem}` | {what} | {why} | {refused_in(crate, edit.stem)} |")
+    functions = wrong_programs(crate, edits)
+    if functions:
+        print("\n| public function | its wrong programs, and those of what it calls |\n|---|---|")
+    for name, found in functions.items():
+        print(f"| `{name}` | {', '.join(f'`{edit}`' for edit in found)} |")
+
+
 def main(words):
     edits = edits_of_crates()
     if words[:1] == ["--times"]:
@@ -243,7 +257,9 @@ def main(words):
     print(f"{count} wrong programs, tried by `rt ci` at every run: each is the program with one or two lines changed "
           "to the same shape with another operand, and each is refused.")
     print("The table says what was changed, the fact that no longer holds, and where the check first fails. "
-          "`python3 tests/ledger.py` makes this page from the edits and the last run.\n")
+          "`python3 tests/ledger.py` makes this page from the edits and the last run.")
+    print("A wrong line counts for every public function that runs it or looks it up: each of them has two or more, a "
+          "function for C, which only hands on, one or more (`tests/selftest.py` counts).\n")
     print("The five of 01, 'How firm each promise is':\n")
     print("| must be unable to meet the promise | refused as |\n|---|---|")
     for what, where in FIVE:
@@ -251,16 +267,8 @@ def main(words):
     print("\n## What they take\n")
     print("\n".join(cost(edits)))
     for crate, promise in PROMISES:
-        if crate not in edits:
-            continue
-        print(f"\n## {crate}: {promise}\n")
-        print("| edit | changed | the fact | refused in |\n|---|---|---|---|")
-        for edit in edits[crate]:
-            why, pairs = parts(edit)
-            what = "; ".join(changed(*pair) for pair in pairs)
-            print(f"| `{edit.stem}` | {what} | {why} | {refused_in(crate, edit.stem)} |")
-        for name, found in wrong_programs(crate, edits[crate]).items():
-            print(f"\n`{name}`: {', '.join(found)}.")
+        if crate in edits:
+            section(crate, promise, edits[crate])
 
 
 if __name__ == "__main__":
