@@ -14,7 +14,7 @@ use Rattle.papers.specs.Papers.{known, itemsOf}
 use Rattle.layout.specs.declared.Answer.{Answer}
 use Rattle.layout.specs.declared.Answer.the-variants.{Accepted, Refused}
 use Rattle.layout.specs.Record.{allParts, allNumbers}
-use Rattle.shapes.specs.Spots.{spotOf}
+use Rattle.spots.specs.Spots.{spotOf}
 use Rattle.reader.specs.declared.lines.Step.{Step}
 use Rattle.reader.specs.declared.lines.Step.the-variants.{Next}
 use Rattle.reader.specs.declared.lines.Step.the-variants as steps

@@ -11,7 +11,7 @@ use Rattle.codec.specs.Line.{Held}
 use Rattle.codec.specs.Item.{slots, nothing, item}
 use Rattle.codec.specs.Field.{firstFlag, nextFlags}
 use Rattle.layout.specs.Record.{allParts, allNumbers}
-use Rattle.shapes.specs.Spots.{itemOn}
+use Rattle.spots.specs.Spots.{itemOn}
 use Rattle.reader.specs.Steps.{run}
 use Rattle.reader.specs.declared.lines.Step.{Step}
 use Rattle.reader.specs.declared.lines.Step.the-variants.{Next, Refused}

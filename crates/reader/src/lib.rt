@@ -1,6 +1,6 @@
 // Reads a field of a category: `read` gives the answer and the record, `survey` the answer and where each item begins.
 // Promises: both answer what 01 defines, for every category and every octet string; octets from LEN on are never looked at.
-// Stands on lengths and shapes; its module lines reads one chain part or subfield by its format.
+// Stands on lengths, shapes and spots; its module lines reads one chain part or subfield by its format.
 ghost use mathlib.Core.Path.{_≡_};
 ghost use mathlib.Core.Bool.{true};
 ghost use mathlib.Core.List.{List};
@@ -17,7 +17,7 @@ ghost use Rattle.papers.specs.Papers.{known};
 ghost use Rattle.scope.specs.Reading.{readOf};
 ghost use Rattle.lengths.specs.Lines.{lineAt, firstAt, countAt};
 ghost use Rattle.shapes.specs.Shapes.{itemAt, partsOk};
-ghost use Rattle.shapes.specs.Spots.{spotAt, spotOk, rowOk};
+ghost use Rattle.spots.specs.Spots.{spotAt, spotOk, rowOk};
 ghost use Rattle.reader.specs.Steps.{lineRun};
 ghost use Rattle.reader.specs.Walk.{Stands, Ready};
 ghost use Rattle.reader.specs.Chains.{chainRun, chainRoom};
@@ -186,7 +186,7 @@ fn place(s: &[u8], at: usize, k: usize, there: bool, numbers: &mut Numbers) -> S
     ensures { λ r. ⌜ Stands (now (numbers .entry)) (spotAt k .1) (placeRun k there (now (s .entry)) at) r (now (numbers .exit)) ⌝ }
 {
     if there {
-        let spot = shapes::spot_at(k);
+        let spot = spots::spot_at(k);
         return item(
             s,
             at,
@@ -272,7 +272,7 @@ fn items(
     ensures { λ r. ⌜ WalkStands (now (numbers .entry)) (now (parts .entry)) (now (starts .entry)) (length (now (s .entry))) (itemsIn cat ind (now (s .entry))) r (now (numbers .exit)) (now (parts .exit)) (now (starts .exit)) ⌝ }
 {
     let n = layout::items_of(cat);
-    let first = shapes::spot_of(cat);
+    let first = spots::spot_of(cat);
     if no_spare(ind, n) {
         let a = row(s, first, n, ind, &mut *numbers, &mut *parts, &mut *starts);
         let Step::Next(_, next) = a else {

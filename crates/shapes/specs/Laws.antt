@@ -1,4 +1,3 @@
--- What holds of every shape and of every spot, and of runs of them.
+-- What holds of every shape, and of runs of lines.
 pub mod Shapes
-pub mod Spots
 pub mod Runs

@@ -1,4 +1,3 @@
--- The papers item by item and category by category, as the constant tables have them.
+-- The papers item by item, as the constant table has them.
 pub mod Shapes
-pub mod Spots
 pub mod Laws

@@ -6,7 +6,7 @@ use lib.IntN.{ℤ}
 use Rattle.codec.specs.Pick.{pick}
 use Rattle.papers.specs.Names.{text, Named}
 use Rattle.scope.specs.Sheet.{itemText}
-use Rattle.shapes.specs.Spots.{spotAt, itemOn, numbersOn}
+use Rattle.spots.specs.Spots.{spotAt, itemOn, numbersOn}
 use Rattle.sheet.specs.Items.{namedAt}
 
 -- the names of the item at a spot, and of so many from a spot on

@@ -11,7 +11,7 @@ ghost use Rattle.codec.specs.Field.{flags};
 ghost use Rattle.papers.specs.Names.{text};
 ghost use Rattle.papers.specs.Papers.{known};
 ghost use Rattle.scope.specs.Sheet.{decimal, keyLine, rowText, itemsText, refusalText, sheetOf, Listed};
-ghost use Rattle.shapes.specs.Spots.{spotOk, rowOk, itemsFrom, heldFrom};
+ghost use Rattle.spots.specs.Spots.{spotOk, rowOk, itemsFrom, heldFrom};
 ghost use Rattle.text.specs.Typing.{Types};
 ghost use Rattle.sheet.specs.Items.{namedAt};
 ghost use Rattle.sheet.specs.Rows.{namesFrom, placeText, commaOf};
@@ -38,7 +38,7 @@ fn place(
     ensures { λ r. ⌜ Types (placeText k there count (now (numbers .entry))) (now (buf .entry)) at (now (buf .exit)) r ⌝ }
 {
     if there {
-        let spot = shapes::spot_at(k);
+        let spot = spots::spot_at(k);
         return items::named(
             leaves::wide(spot.0),
             leaves::wide(count),
@@ -133,7 +133,7 @@ fn names(
     }
     if flags::present(items, i) {
         let behind = comma(first, at, &mut *buf);
-        let spot = shapes::spot_at(k);
+        let spot = spots::spot_at(k);
         let next = name(leaves::wide(spot.0), behind, &mut *buf);
         return names(items, k + 1, i + 1, left - 1, false, next, &mut *buf);
     }
@@ -153,7 +153,7 @@ fn accepted(kept: Record, len: usize, at: usize, buf: &mut [u8; 4096]) -> usize
     requires { ⌜ (known (kept .cat) ≡ true) × (length (kept .numbers) ≡ SLOTS) ⌝ }
     ensures { λ r. ⌜ Types (recordText kept len) (now (buf .entry)) at (now (buf .exit)) r ⌝ }
 {
-    let first = shapes::spot_of(kept.cat);
+    let first = spots::spot_of(kept.cat);
     let n = layout::items_of(kept.cat);
     let parts = kept.parts;
     let numbers = kept.numbers;

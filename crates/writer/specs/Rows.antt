@@ -4,7 +4,7 @@ use Prim.Native.Nat.{ℕ}
 use Rattle.codec.specs.Codec.{Codec, opt}
 use Rattle.codec.specs.Line.{Held}
 use Rattle.codec.specs.Item.{slots, nothing, item}
-use Rattle.shapes.specs.Spots.{itemOn}
+use Rattle.spots.specs.Spots.{itemOn}
 
 -- ---- the item at a spot
 

@@ -1,6 +1,6 @@
 // Writes a record as a field: `write` answers its length and leaves the field in the front of the output.
 // Promises: the answer and every octet of the output are what 01 defines, for every value of the record; a refusal writes nothing.
-// Stands on lengths and shapes, by which it lays the octets, and on reader's promise: a record is right exactly if what is laid of it reads back to it.
+// Stands on lengths, shapes and spots, by which it lays the octets, and on reader's promise: a record is right exactly if what is laid of it reads back to it.
 ghost use mathlib.Core.Path.{_≡_};
 ghost use mathlib.Core.Bool.{true};
 ghost use mathlib.Core.List.{List};
@@ -16,7 +16,7 @@ ghost use Rattle.papers.specs.Papers.{known};
 ghost use Rattle.layout.specs.Laws.Slots.{Holds};
 ghost use Rattle.lengths.specs.Lines.{lineAt, firstAt, countAt};
 ghost use Rattle.shapes.specs.Shapes.{itemAt, linesFrom, flagsUnder, inTurn};
-ghost use Rattle.shapes.specs.Spots.{spotOk, rowOk, itemsFrom, numbersOn, heldFrom};
+ghost use Rattle.spots.specs.Spots.{spotOk, rowOk, itemsFrom, numbersOn, heldFrom};
 ghost use Rattle.scope.specs.Writing.{Wrote};
 ghost use Rattle.writer.specs.Laying.{Lays};
 ghost use Rattle.writer.specs.Chains.{goesOn};
@@ -132,7 +132,7 @@ fn place(
     ensures { λ r. ⌜ Lays (placeOn k there) (count, numbersOn k (now (numbers .entry))) (now (octets .entry)) at (now (octets .exit)) r ⌝ }
 {
     if there {
-        let spot = shapes::spot_at(k);
+        let spot = spots::spot_at(k);
         return item(
             numbers,
             count,
@@ -181,7 +181,7 @@ fn lay(cat: u8, items: u8, parts: &[u8; 8], numbers: &Numbers, octets: &mut Fiel
     requires { ⌜ (known cat ≡ true) × (length (now octets) ≡ LONGEST) ⌝ }
     ensures { λ _. ⌜ Laid (made cat items (now (parts .entry)) (now (numbers .entry))) (now (octets .entry)) (now (octets .exit)) ⌝ }
 {
-    let first = shapes::spot_of(cat);
+    let first = spots::spot_of(cat);
     let n = layout::items_of(cat);
     octets[1] = items;
     let end = row(items, parts, numbers, first, 0, n, 2, &mut *octets);

@@ -2,7 +2,7 @@
 use mathlib.Core.Path.{_∙_, ap, subst, sym}
 use borrow.Author.Needs.{needs}
 use denote.Ref.{now}
-use Rattle.shapes.specs.declared.Spot.{Spot}
+use Rattle.spots.specs.declared.Spot.{Spot}
 use Rattle.reader.specs.Walk.{Ready}
 use Rattle.reader.specs.Laws.Rows.{place-asks, place-there, place-not}
 use Rattle.reader.proofs.place.Statement.{statement}

@@ -21,8 +21,8 @@ use Rattle.papers.specs.Papers.{known, paperOf, itemsOf}
 use Rattle.papers.specs.Laws.Papers.{few-items}
 use Rattle.layout.specs.declared.Answer.{Answer}
 use Rattle.layout.specs.declared.Answer.the-variants.{Accepted, Refused}
-use Rattle.shapes.specs.Spots.{spotAt, spotOf, itemOn, rowOk, itemsFrom}
-use Rattle.shapes.specs.Laws.Spots.{Spots, spots-right}
+use Rattle.spots.specs.Spots.{spotAt, spotOf, itemOn, rowOk, itemsFrom}
+use Rattle.spots.specs.Laws.Spots.{Spots, spots-right}
 use Rattle.reader.specs.Steps.{run}
 use Rattle.reader.specs.declared.lines.Step.{Step}
 use Rattle.reader.specs.declared.lines.Step.the-variants.{Next}

@@ -17,9 +17,9 @@ use Rattle.codec.specs.Laws.Long.{LongBy, many, long-shift, long-opt, long-item
 use Rattle.papers.specs.Papers.{SLOTS}
 use Rattle.layout.specs.Record.{allParts, allNumbers}
 use Rattle.shapes.specs.Shapes.{itemAt}
-use Rattle.shapes.specs.Spots.{spotAt, itemOn, spotOk, rowOk}
+use Rattle.spots.specs.Spots.{spotAt, itemOn, spotOk, rowOk}
 use Rattle.codec.specs.Laws.Sets.{sets-append}
-use Rattle.shapes.specs.Laws.Runs.{first-drop, next-drop}
+use Rattle.spots.specs.Laws.Rows.{first-drop, next-drop}
 use Rattle.reader.specs.declared.lines.Step.{Step}
 use Rattle.reader.specs.declared.lines.Step.the-variants.{Next, Refused}
 use Rattle.reader.specs.Walk.{Stands, Ready}

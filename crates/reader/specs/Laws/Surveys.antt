@@ -25,8 +25,8 @@ use Rattle.papers.specs.Laws.Papers.{good-paper, few-items}
 use Rattle.layout.specs.declared.Answer.{Answer}
 use Rattle.layout.specs.declared.Answer.the-variants.{Accepted, Refused}
 use Rattle.scope.specs.Survey.{startsFrom, surveyed, surveyOf}
-use Rattle.shapes.specs.Spots.{spotOf, itemOn, itemsFrom}
-use Rattle.shapes.specs.Laws.Spots.{spots-right}
+use Rattle.spots.specs.Spots.{spotOf, itemOn, itemsFrom}
+use Rattle.spots.specs.Laws.Spots.{spots-right}
 use Rattle.layout.specs.declared.Surveyed.{Surveyed}
 use Rattle.reader.specs.Rows.{placeRun, Found, found, goOn, rowFrom}
 use Rattle.reader.specs.Fields.{walkOf, answerTo, outAfter, WalkStands}

@@ -25,8 +25,8 @@ use Rattle.layout.specs.declared.Answer.{Answer}
 use Rattle.layout.specs.declared.Answer.the-variants.{Accepted, Refused}
 use Rattle.layout.specs.Record.{allParts, allNumbers, flatten}
 use Rattle.scope.specs.Reading.{fieldOf, noRecord, shown, readOf}
-use Rattle.shapes.specs.Spots.{spotOf, itemOn, itemsFrom}
-use Rattle.shapes.specs.Laws.Spots.{spots-right}
+use Rattle.spots.specs.Spots.{spotOf, itemOn, itemsFrom}
+use Rattle.spots.specs.Laws.Spots.{spots-right}
 use Rattle.reader.specs.Walk.{Ready}
 use Rattle.reader.specs.Rows.{placeRun, Found, found, goOn, rowFrom}
 use Rattle.reader.specs.Laws.Rows.{place-many}

@@ -5,7 +5,7 @@ use native.Mathlib.Omega.{arith}
 use denote.Ref.{now}
 use mir.Facts.{fits-of-lt}
 use Rattle.codec.specs.Field.{flags}
-use Rattle.shapes.specs.declared.Spot.{Spot}
+use Rattle.spots.specs.declared.Spot.{Spot}
 use Rattle.text.specs.Laws.Typing.{types-as}
 use Rattle.sheet.specs.Items.{namedAt}
 use Rattle.sheet.specs.Laws.Rows.{names-end, names-there, names-not}
@@ -18,7 +18,7 @@ use Rattle.flags.proofs.present.Reads as present-reads
 use Rattle.sheet.proofs.comma.Reads as comma-reads
 use Rattle.sheet.proofs.name.Reads as name-reads
 use Rattle.leaves.proofs.wide.Reads as wide-reads
-use Rattle.shapes.proofs.spot_at.Reads as spot-at-reads
+use Rattle.spots.proofs.spot_at.Reads as spot-at-reads
 use Rattle.sheet.proofs.+names.{statement}
 use Rattle.sheet.proofs.+names.Tie.{close}
 

@@ -4,7 +4,7 @@ use native.Mathlib.Omega.{arith}
 use denote.Ref.{now}
 use mir.Facts.{fits-of-lt}
 use Rattle.codec.specs.Field.{flags}
-use Rattle.shapes.specs.Laws.Runs.{row-first}
+use Rattle.spots.specs.Laws.Rows.{row-first}
 use Rattle.sheet.specs.Laws.Rows.{row-end, row-on}
 use borrow.Fn.Kinds.{In}
 use borrow.Fn.PlainCycle.{Measures, is, falls, and}

@@ -1,6 +1,6 @@
 -- `sheet::accepted` meets its contract: the lines stand one behind the other. Assumes nothing.
 use borrow.Author.Needs.{needs}
-use Rattle.shapes.specs.Laws.Spots.{row-asks}
+use Rattle.spots.specs.Laws.Spots.{row-asks}
 use Rattle.sheet.specs.Laws.Whole.{record-typed}
 use Rattle.sheet.proofs.accepted.Statement.{statement}
 use Rattle.sheet.proofs.accepted.Tie as tie

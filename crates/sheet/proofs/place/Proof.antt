@@ -2,7 +2,7 @@
 use mathlib.Core.Path.{ap, _∙_}
 use native.Mathlib.Omega.{arith}
 use denote.Ref.{now}
-use Rattle.shapes.specs.declared.Spot.{Spot}
+use Rattle.spots.specs.declared.Spot.{Spot}
 use Rattle.sheet.specs.Laws.Rows.{place-there, place-not}
 use Rattle.sheet.proofs.place.Statement.{statement}
 use Rattle.sheet.proofs.place.Tie as tie

@@ -14,8 +14,8 @@ use Rattle.codec.specs.Field.{uncons}
 use Rattle.papers.specs.Names.{text, Named, names048, names021, names007}
 use Rattle.layout.specs.Laws.Slots.{Holds, holds-item}
 use Rattle.scope.specs.Sheet.{itemText, rowText, itemsText}
-use Rattle.shapes.specs.Spots.{spotAt, itemOn, spotOk, rowOk, itemsFrom, numbersOn, heldFrom}
-use Rattle.shapes.specs.Laws.Runs.{first-drop, next-drop, items-on, held-on}
+use Rattle.spots.specs.Spots.{spotAt, itemOn, spotOk, rowOk, itemsFrom, numbersOn, heldFrom}
+use Rattle.spots.specs.Laws.Rows.{first-drop, next-drop, items-on, held-on}
 use Rattle.text.specs.Typing.{Types}
 use Rattle.text.specs.Laws.Typing.{types-as, types-behind, types-none}
 use Rattle.sheet.specs.Items.{nobody, named, namedAt, ItemTyped}

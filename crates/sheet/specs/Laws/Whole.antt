@@ -31,8 +31,8 @@ use Rattle.scope.specs.Reading.{fieldOf, shown, readOf}
 use Rattle.scope.specs.Sheet.{decimal, keyLine, rowText, itemsText, refusalText, fieldText, sheetOf}
 use Rattle.layout.specs.Laws.Answer.{Accepted≢Refused}
 use Rattle.scope.specs.Laws.Reading.{Read, read-found, read-front}
-use Rattle.shapes.specs.Spots.{spotAt, spots, spotsFrom, spotOf, itemsFrom, heldFrom}
-use Rattle.shapes.specs.Laws.Spots.{spots-right}
+use Rattle.spots.specs.Spots.{spotAt, spots, spotsFrom, spotOf, itemsFrom, heldFrom}
+use Rattle.spots.specs.Laws.Spots.{spots-right}
 use Rattle.text.specs.Typing.{Types}
 use Rattle.text.specs.Laws.Typing.{types-as, types-behind, typed-front}
 use Rattle.longest.specs.Laws.Longest.{sheet-longest}

@@ -2,7 +2,7 @@
 use mathlib.Core.Path.{refl}
 use borrow.Author.Needs.{needs}
 use denote.Ref.{now}
-use Rattle.shapes.specs.Laws.Spots.{row-asks}
+use Rattle.spots.specs.Laws.Spots.{row-asks}
 use Rattle.writer.specs.Laws.Frames.{lay-front}
 use Rattle.writer.proofs.lay.Statement.{statement}
 use Rattle.writer.proofs.lay.Tie as tie

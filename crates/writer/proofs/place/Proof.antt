@@ -2,7 +2,7 @@
 use mathlib.Core.Path.{ap, _∙_}
 use borrow.Author.Needs.{needs}
 use denote.Ref.{now}
-use Rattle.shapes.specs.declared.Spot.{Spot}
+use Rattle.spots.specs.declared.Spot.{Spot}
 use Rattle.writer.specs.Laws.Rows.{place-there, place-not}
 use Rattle.writer.proofs.place.Statement.{statement}
 use Rattle.writer.proofs.place.Tie as tie

@@ -21,8 +21,8 @@ use Rattle.papers.specs.Papers.{LONGEST, known, paperOf, itemsOf}
 use Rattle.papers.specs.Laws.Papers.{few-octets}
 use Rattle.layout.specs.Record.{regroup, unflatten, fitsPaper, contents}
 use Rattle.scope.specs.Writing.{writable, written}
-use Rattle.shapes.specs.Spots.{spotAt, spotOf, itemsFrom, heldFrom}
-use Rattle.shapes.specs.Laws.Spots.{Spots, spots-right}
+use Rattle.spots.specs.Spots.{spotAt, spotOf, itemsFrom, heldFrom}
+use Rattle.spots.specs.Laws.Spots.{Spots, spots-right}
 use Rattle.writer.specs.Laying.{Lays}
 use Rattle.codec.specs.Laws.Sets.{Put}
 use Rattle.writer.specs.Frames.{made, Laid}

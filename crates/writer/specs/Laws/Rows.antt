@@ -12,8 +12,8 @@ use Rattle.codec.specs.Item.{Item, slots, nothing, item}
 use Rattle.codec.specs.Field.{noRow, uncons, isCons, firstFlag, nextFlags, place, row}
 use Rattle.layout.specs.Laws.Slots.{Holds, holds-item}
 use Rattle.shapes.specs.Shapes.{itemAt}
-use Rattle.shapes.specs.Spots.{spotAt, itemOn, spotOk, rowOk, itemsFrom, numbersOn, heldFrom}
-use Rattle.shapes.specs.Laws.Runs.{first-drop, next-drop, items-on, held-on}
+use Rattle.spots.specs.Spots.{spotAt, itemOn, spotOk, rowOk, itemsFrom, numbersOn, heldFrom}
+use Rattle.spots.specs.Laws.Rows.{first-drop, next-drop, items-on, held-on}
 use Rattle.writer.specs.Laying.{Lays}
 use Rattle.writer.specs.Laws.Laying.{lays-via, lays-there, lays-none, lays-absent, lays-seq}
 use Rattle.writer.specs.Rows.{placeOn}

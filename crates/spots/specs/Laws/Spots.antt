@@ -16,8 +16,8 @@ use Rattle.papers.specs.Cat007.{cat007}
 use Rattle.papers.specs.Papers.{known, paperOf, itemsOf}
 use Rattle.papers.specs.Laws.Papers.{paper-048, paper-021, paper-007, few-items}
 use Rattle.lengths.specs.Lines.{items}
 use Rattle.shapes.specs.Shapes.{itemAt}
-use Rattle.shapes.specs.Spots.{spotsFrom, spots, spotAt, spotOf, spotOk, rowOk, itemsFrom}
+use Rattle.spots.specs.Spots.{spotsFrom, spots, spotAt, spotOf, spotOk, rowOk, itemsFrom}
 
 -- what holds of the spots of a category: its items, slots that begin at 0 and follow each other
 pub record Spots (cat : ℕ) : Type 0 where

@@ -1,9 +1,9 @@
--- `shapes::spot_of` meets its contract, by the category. Assumes nothing.
+-- `spots::spot_of` meets its contract, by the category. Assumes nothing.
 use mathlib.Core.Path.{refl}
 use borrow.Author.Tests.{ne-eqb}
-use Rattle.shapes.specs.Spots.{spotOf}
-use Rattle.shapes.proofs.spot_of.Statement.{statement}
-use Rattle.shapes.proofs.spot_of.Tie as tie
+use Rattle.spots.specs.Spots.{spotOf}
+use Rattle.spots.proofs.spot_of.Statement.{statement}
+use Rattle.spots.proofs.spot_of.Tie as tie
 
 returns : tie.Need-returns
 unfolding spotOf

@@ -10,8 +10,8 @@ use Rattle.codec.specs.Line.{Held}
 use Rattle.codec.specs.Item.{Item, slots}
 use Rattle.papers.specs.Papers.{SLOTS}
 use Rattle.layout.specs.Record.{regroup}
-use Rattle.shapes.specs.declared.Spot.{Spot}
+use Rattle.spots.specs.declared.Spot.{Spot}
 use Rattle.shapes.specs.Shapes.{itemAt}
 
 unfoldable pub spotsFrom : ℕ → List ℕ → List Spot
 spotsFrom slot [] = []

@@ -1,4 +1,4 @@
--- `shapes::no_spot` meets its contract: behind the last spot there is none. Assumes nothing.
+-- `spots::no_spot` meets its contract: behind the last spot there is none. Assumes nothing.
 use mathlib.Core.Path.{sym}
 use lib.ListN.{List·getD-eq-default}
 use Rattle.codec.specs.Laws.Arms.{past}
@@ -6,10 +6,10 @@ use Rattle.papers.specs.Cat048.{cat048}
 use Rattle.papers.specs.Cat021.{cat021}
 use Rattle.papers.specs.Cat007.{cat007}
 use Rattle.lengths.specs.Lines.{items}
 use Rattle.shapes.specs.Shapes.{itemAt}
-use Rattle.shapes.specs.Spots.{spotsFrom, spots, spotAt}
-use Rattle.shapes.proofs.no_spot.Statement.{statement}
-use Rattle.shapes.proofs.no_spot.Tie as tie
+use Rattle.spots.specs.Spots.{spotsFrom, spots, spotAt}
+use Rattle.spots.proofs.no_spot.Statement.{statement}
+use Rattle.spots.proofs.no_spot.Tie as tie
 
 returns : tie.Need-returns
 unfolding spotAt spots spotsFrom itemAt items cat048 cat021 cat007

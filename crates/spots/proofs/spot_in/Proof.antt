@@ -1,9 +1,9 @@
--- `shapes::spot_in` meets its contract, by the table's rule. Assumes nothing.
+-- `spots::spot_in` meets its contract, by the table's rule. Assumes nothing.
 use mathlib.Core.Path.{refl}
 use borrow.Author.Needs.{needs}
-use Rattle.shapes.specs.Spots.{spotAt}
-use Rattle.shapes.proofs.spot_in.Statement.{statement}
-use Rattle.shapes.proofs.spot_in.Tie as tie
+use Rattle.spots.specs.Spots.{spotAt}
+use Rattle.spots.proofs.spot_in.Statement.{statement}
+use Rattle.spots.proofs.spot_in.Tie as tie
 
 mul-result : tie.Need-mul-result
 mul-result c = search needs
