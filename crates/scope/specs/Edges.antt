@@ -15,6 +15,7 @@ use Rattle.codec.specs.Frame.{Outcome, accepted, refused, settle, readFrame, wr
 use Rattle.codec.specs.Meaning.{lenOf}
 use Rattle.codec.specs.Change.{Change, remove, put, setFlag, setItem, blankAt, alone, putIn, change}
 use Rattle.papers.specs.Cat048.{cat048}
+use Rattle.papers.specs.Cat021.{cat021}
 use Rattle.papers.specs.Papers.{known, paperOf, SLOTS, allSlots}
 use Rattle.layout.specs.declared.Record.{Record}
 use Rattle.layout.specs.declared.Reading.{Reading}
@@ -29,6 +30,7 @@ use Rattle.scope.specs.Writing.{writable, written, writeOf}
 use Rattle.scope.specs.Outputs.{withRoom}
 use Rattle.scope.specs.Views.{isItem, present, standing, viewIn, viewOf, chooseIn, chooseOf}
 use Rattle.scope.specs.Desk.{listed, afresh, editIn, editOf}
+use Rattle.scope.specs.Visitors.{without, copyIn, copyOf}
 use Rattle.scope.specs.Angle.{rounded, udegOf}
 
 -- ---- reading
@@ -165,6 +167,36 @@ tries =
 pub tries-edited : map (λ (t : Try). editOf 48 (0x06 ∷ 0x28 ∷ 0x06 ∷ 0x01 ∷ 0x00 ∷ 0x00 ∷ []) (t .list) (t .item) (t .what) (t .room)) tries ≡ map (λ (t : Try). t .gives) tries
 unfolding tries editOf editIn afresh withRoom listed isItem fieldOf known paperOf cat048 change putIn alone blankAt setItem setFlag lenOf settle readFrame writeFrame body indicator allZero row firstFlag nextFlags uncons slots item chain fxOf beside subfields isOne slotsOf line cells number toNum ofNum toSigned ofSigned limit widths count clear nums unnums inLimits total cut join
 tries-edited = refl
+
+-- ---- 02, Ask 5: copies of `06 28 06 01 00 00` and, of category 21, of a field with its last item. Room is asked of the copy, and a spare place of the list
+-- has no effect
+
+pub record Visit : Type 0 where
+  pub cat : ℕ
+  pub field : List ℕ
+  pub withheld : ℕ
+  pub room : ℕ
+  pub gives : Outcome (List ℕ)
+
+unfoldable pub visits : List Visit
+visits =
+    record { cat = 48; field = 0x06 ∷ 0x28 ∷ 0x06 ∷ 0x01 ∷ 0x00 ∷ 0x00 ∷ []; withheld = 0x00; room = 6; gives = accepted (0x06 ∷ 0x28 ∷ 0x06 ∷ 0x01 ∷ 0x00 ∷ 0x00 ∷ []) }
+    ∷ record { cat = 48; field = 0x06 ∷ 0x28 ∷ 0x06 ∷ 0x01 ∷ 0x00 ∷ 0x00 ∷ []; withheld = 0x20; room = 5; gives = accepted (0x05 ∷ 0x08 ∷ 0x01 ∷ 0x00 ∷ 0x00 ∷ []) }
+    ∷ record { cat = 48; field = 0x06 ∷ 0x28 ∷ 0x06 ∷ 0x01 ∷ 0x00 ∷ 0x00 ∷ []; withheld = 0x20; room = 4; gives = refused 11 0 }
+    ∷ record { cat = 48; field = 0x06 ∷ 0x28 ∷ 0x06 ∷ 0x01 ∷ 0x00 ∷ 0x00 ∷ 0xFF ∷ []; withheld = 0x08; room = 3; gives = accepted (0x03 ∷ 0x20 ∷ 0x06 ∷ []) }
+    ∷ record { cat = 48; field = 0x06 ∷ 0x28 ∷ 0x06 ∷ 0x01 ∷ 0x00 ∷ 0x00 ∷ []; withheld = 0xFF; room = 2; gives = accepted (0x02 ∷ 0x00 ∷ []) }
+    ∷ record { cat = 48; field = 0x06 ∷ 0x28 ∷ 0x06 ∷ 0x01 ∷ 0x00 ∷ 0x00 ∷ []; withheld = 0xFF; room = 1; gives = refused 11 0 }
+    ∷ record { cat = 48; field = 0x06 ∷ 0x28 ∷ 0x06 ∷ 0x01 ∷ 0x00 ∷ 0x00 ∷ []; withheld = 0x07; room = 6; gives = accepted (0x06 ∷ 0x28 ∷ 0x06 ∷ 0x01 ∷ 0x00 ∷ 0x00 ∷ []) }
+    ∷ record { cat = 48; field = 0x06 ∷ 0x28 ∷ 0x06 ∷ 0x01 ∷ 0x00 ∷ 0x00 ∷ []; withheld = 0xD7; room = 6; gives = accepted (0x06 ∷ 0x28 ∷ 0x06 ∷ 0x01 ∷ 0x00 ∷ 0x00 ∷ []) }
+    ∷ record { cat = 21; field = 0x05 ∷ 0x81 ∷ 0x0F ∷ 0xFF ∷ 0x00 ∷ []; withheld = 0x01; room = 4; gives = accepted (0x04 ∷ 0x80 ∷ 0x0F ∷ 0xFF ∷ []) }
+    ∷ record { cat = 21; field = 0x05 ∷ 0x81 ∷ 0x0F ∷ 0xFF ∷ 0x00 ∷ []; withheld = 0x80; room = 4; gives = accepted (0x03 ∷ 0x01 ∷ 0x00 ∷ []) }
+    ∷ record { cat = 48; field = 0x03 ∷ 0x20 ∷ 0x0F ∷ []; withheld = 0x20; room = 0; gives = refused 6 2 }
+    ∷ record { cat = 49; field = []; withheld = 0xFF; room = 0; gives = refused 1 0 }
+    ∷ []
+
+pub visits-copied : map (λ (v : Visit). copyOf (v .cat) (v .field) (v .withheld) (v .room)) visits ≡ map (λ (v : Visit). v .gives) visits
+unfolding visits copyOf copyIn without withRoom listed fieldOf known paperOf cat048 cat021 blankAt setItem setFlag lenOf settle readFrame writeFrame body indicator allZero row firstFlag nextFlags uncons slots item chain fxOf beside subfields isOne slotsOf line cells number toNum ofNum toSigned ofSigned limit widths count clear nums unnums inLimits total cut join
+visits-copied = refl
 
 -- ---- "Angles: 1 gives 21, 16,384 gives 351,563, -16,384 gives -351,563, 4,194,304 gives 90,000,000"
 

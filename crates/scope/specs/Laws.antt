@@ -4,3 +4,6 @@ pub mod Reading
 pub mod Refusals
 pub mod Views
 pub mod Edits
+pub mod Alike
+pub mod Without
+pub mod Visitors

@@ -1,12 +1,14 @@
 -- What each operation of 01 answers and promises, a file for each of its sections: reading, writing, views and the
--- choice, the desk, the angle, the sheet; where the items stand; and the octets of 01 computed. What follows from
--- them stands under Laws.
+-- choice, the desk, the angle, the sheet; where the items stand; and the octets of 01 computed. Of 02 the visitors' copy,
+-- and when two fields are alike. What follows from them stands under Laws.
 pub mod Reading
 pub mod Outputs
 pub mod Writing
 pub mod Views
 pub mod Survey
 pub mod Desk
+pub mod Alike
+pub mod Visitors
 pub mod Angle
 pub mod Sheet
 pub mod Sheets

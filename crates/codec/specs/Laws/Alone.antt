@@ -222,7 +222,7 @@ module _ (ind : ℕ) where
   only-item p e fs one (an-item {b = b} f i c) (x ∷ bs) q k z = zero-one f (z (suc b) (omega arith) (le-refl (suc b)) (λ w. omega arith))
   only-item p e fs one (no-item {b = b} f c) (x ∷ bs) q k z = only-item p e fs one c bs (tail-eq-of-cons-eq q) (omega arith) (λ j lo hi w. z j lo (omega arith) w)
 
-zero-at : (ds : List ℕ) → T (allZero ds) → (j : ℕ) → getD ds j 0 ≡ 0
+pub zero-at : (ds : List ℕ) → T (allZero ds) → (j : ℕ) → getD ds j 0 ≡ 0
 unfolding allZero
 zero-at [] z j = refl
 zero-at (d ∷ ds) z zero = eqb→eq d 0 (and-l (eqb d 0) _ z)

@@ -5,7 +5,6 @@ use mathlib.Core.Logic.{_≢_}
 use mathlib.Core.Bool.{Bool, true, false}
 use mathlib.Core.List.{List, [], _∷_, _++_, append-nil}
 use Prim.Native.Nat.{ℕ, suc, _+_, _-_, _≤_, _<_}
-use native.Mathlib.Nat.{le-trans}
 use native.Mathlib.Omega.{arith}
 use lib.Dec.{T, leb, eqb, leb→le}
 use lib.ListN.{length, getD, take, drop, length-append}
@@ -14,16 +13,15 @@ use Rattle.codec.specs.Pick.{pick}
 use Rattle.codec.specs.Radix.{join, ones}
 use Rattle.codec.specs.Codec.{Octets}
 use Rattle.codec.specs.Field.{flags, Contents, body, textsOf, flat}
-use Rattle.codec.specs.Frame.{Outcome, accepted, refused, readFrame, writeFrame, okayFrame}
+use Rattle.codec.specs.Frame.{Outcome, accepted, refused, readFrame, writeFrame}
 use Rattle.codec.specs.Meaning.{lenOf}
 use Rattle.codec.specs.Change.{Change, remove, setFlag, change}
 use Rattle.codec.specs.Laws.Tests.{and-l, holds}
-use Rattle.codec.specs.Laws.Field.{lawful-body, indicator-lt, flags-join, flag-zero, body-write, length-texts}
-use Rattle.codec.specs.Laws.Frame.{refused≢accepted, read-again, frame-octets}
-use Rattle.codec.specs.Laws.Longest.{okay-alone}
+use Rattle.codec.specs.Laws.Field.{indicator-lt, flags-join, flag-zero, body-write, length-texts}
+use Rattle.codec.specs.Laws.Frame.{refused≢accepted}
 use Rattle.codec.specs.Laws.Change.{Splice, newOctets, newFlag, spliced, flat-set, remove-absent, others-keep-text, others-keep-flag}
 use Rattle.papers.specs.Papers.{known, paperOf}
-use Rattle.papers.specs.Laws.Papers.{good-paper, few-items, few-octets}
+use Rattle.papers.specs.Laws.Papers.{good-paper, few-items}
 use Rattle.layout.specs.declared.Answer.the-variants.{Accepted}
 use Rattle.layout.specs.Answer.{viewNumber}
 use Rattle.layout.specs.Record.{flatten, contents}
@@ -33,7 +31,7 @@ use Rattle.scope.specs.Outputs.{withRoom}
 use Rattle.scope.specs.Writing.{written}
 use Rattle.scope.specs.Views.{isItem, present, viewOf, partOf}
 use Rattle.scope.specs.Desk.{listed, afresh, editIn, editOf}
-use Rattle.scope.specs.Laws.Reading.{Read, read-made, kept-made, read-front}
+use Rattle.scope.specs.Laws.Reading.{Read, read-made, kept-made, read-front, read-okay, afresh-read, afresh-octets}
 use Rattle.scope.specs.Laws.Views.{field-is, front-length, item-in, view-number, part-is-text}
 
 sums : (xs ys zs : List ℕ) → length (xs ++ (ys ++ zs)) ≡ length xs + (length ys + length zs)
@@ -89,16 +87,14 @@ module _ (cat : ℕ) (s : List ℕ) (list item : ℕ) (ch : Change) (room : ℕ)
 
 module _ {cat : ℕ} {s : List ℕ} {list item : ℕ} {ch : Change} {room : ℕ} {b : List ℕ} (os : Octets s) (on : Octets (newOctets ch)) (d : Edit cat s list item ch room b) where
   pub edit-splice : Splice (paperOf cat) (item - 1) (newFlag ch) (newOctets ch) (d .read .what) (d .new)
-  unfolding okayFrame
   edit-splice =
-      spliced (paperOf cat) (few-items cat) (item - 1) (item-in (d .read) item (d .is-item)) (good-paper cat) ch on (d .read .what) (d .new)
-      (and-l ((body (paperOf cat)) .okay (d .read .what)) _ ((read-front os (d .read)) .okay)) (d .change-is)
+      spliced (paperOf cat) (few-items cat) (item - 1) (item-in (d .read) item (d .is-item)) (good-paper cat) ch on (d .read .what) (d .new) (read-okay os (d .read)) (d .change-is)
 
   -- it is accepted, and holds the changed contents
   pub edit-read : readFrame (body (paperOf cat)) b ≡ accepted (d .new)
   edit-read =
       subst (λ x. readFrame (body (paperOf cat)) x ≡ accepted (d .new)) (append-nil (writeFrame (body (paperOf cat)) (d .new)) ∙ sym (d .octets-are))
-      (read-again (lawful-body (paperOf cat) (good-paper cat)) (d .new) (okay-alone (paperOf cat) (le-trans (few-octets cat) (omega arith)) (d .new) (edit-splice .okay)) [])
+      (afresh-read cat (d .new) (edit-splice .okay) [])
 
   edit-len : lenOf b ≡ length b
   unfolding lenOf writeFrame
@@ -108,8 +104,7 @@ module _ {cat : ℕ} {s : List ℕ} {list item : ℕ} {ch : Change} {room : ℕ}
   read-edited = read-made cat b (d .new) (d .read .known-is) edit-read
 
   pub edited-octets : Octets b
-  edited-octets =
-      subst Octets (sym (d .octets-are)) (frame-octets (lawful-body (paperOf cat) (good-paper cat)) (d .new) (okay-alone (paperOf cat) (le-trans (few-octets cat) (omega arith)) (d .new) (edit-splice .okay)))
+  edited-octets = subst Octets (sym (d .octets-are)) (afresh-octets cat (d .new) (edit-splice .okay))
 
   -- "exactly the field written afresh": the writing, by demand 2's definition, of the record with the changed contents, and it reads back to it
   pub edit-afresh : (b ≡ written (flatten cat (paperOf cat) (d .new))) × (readOf cat b ≡ record { answer = Accepted (length b); kept = flatten cat (paperOf cat) (d .new) })
@@ -215,11 +210,11 @@ module _ (cat : ℕ) (s : List ℕ) (list item : ℕ) (ch : Change) (room : ℕ)
 
 pub absent-removed : (cat : ℕ) (s : List ℕ) (list item room : ℕ) → Octets s → (n : ℕ) (r : Read cat s n) → T (isItem (paperOf cat) item) → listed list item ≡ true → present (r .what) item ≡ false
     → editOf cat s list item remove room ≡ withRoom room (take n s)
-unfolding editOf editIn fieldOf afresh okayFrame present
+unfolding editOf editIn fieldOf afresh present
 absent-removed cat s list item room o n r t l a =
     let f = read-front o r in
     let i : ℕ = item - 1 in
-    let k : T ((body (paperOf cat)) .okay (r .what)) = and-l ((body (paperOf cat)) .okay (r .what)) _ (f .okay) in
+    let k : T ((body (paperOf cat)) .okay (r .what)) = read-okay o r in
     let z : getD (flags (r .what .0)) i 0 ≡ 0 = flag-zero (r .what .0) i (indicator-lt (paperOf cat) (r .what) k) a in
     let c : change (paperOf cat) i remove (r .what) ≡ accepted (r .what)
     = remove-absent (paperOf cat) (few-items cat) i (item-in r item t) (r .what) k z in

@@ -3,6 +3,8 @@ use mathlib.Core.Path.{_≡_, refl, sym, ap, ap₂, _∙_, subst}
 use mathlib.Core.Bool.{Bool, true, false}
 use mathlib.Core.List.{List, _++_}
 use Prim.Native.Nat.{ℕ, _+_, _-_}
+use native.Mathlib.Nat.{le-trans}
+use native.Mathlib.Omega.{arith}
 use lib.Dec.{T, eqb→eq}
 use lib.ListN.{length, take}
 use Rattle.codec.specs.Pick.{pick}
@@ -12,16 +14,18 @@ use Rattle.codec.specs.Frame.{Outcome, accepted, refused, readFrame, writeFrame
 use Rattle.codec.specs.Meaning.{lenOf}
 use Rattle.codec.specs.Laws.Tests.{and-l, and-r, holds}
 use Rattle.codec.specs.Laws.Field.{lawful-body}
-use Rattle.codec.specs.Laws.Frame.{Front, refused≢accepted, mapOutcome, frame-via, read-again, accepted-front}
+use Rattle.codec.specs.Laws.Frame.{Front, refused≢accepted, mapOutcome, frame-via, read-again, accepted-front, frame-octets}
+use Rattle.codec.specs.Laws.Longest.{okay-alone}
 use Rattle.papers.specs.Papers.{known, paperOf}
-use Rattle.papers.specs.Laws.Papers.{good-paper}
+use Rattle.papers.specs.Laws.Papers.{good-paper, few-octets}
 use Rattle.layout.specs.declared.Record.{Record}
 use Rattle.layout.specs.declared.Reading.{Reading}
-use Rattle.layout.specs.declared.Answer.the-variants.{Accepted}
+use Rattle.layout.specs.declared.Answer.the-variants.{Accepted, Refused}
 use Rattle.layout.specs.Record.{flatten, unflatten, fitsPaper, contents}
-use Rattle.layout.specs.Laws.Answer.{Refused≢Accepted}
+use Rattle.layout.specs.Laws.Answer.{Accepted≢Refused, Refused≢Accepted}
 use Rattle.layout.specs.Laws.Record.{lawful-contents}
 use Rattle.scope.specs.Reading.{fieldOf, shown, readOf}
+use Rattle.scope.specs.Survey.{surveyed, surveyOf}
 use Rattle.scope.specs.Writing.{writable, written}
 
 -- ---- what lies behind a field that was accepted
@@ -51,6 +55,21 @@ one-reading {cat} {s} p q =
 pub read-front : {cat : ℕ} {s : List ℕ} {n : ℕ} → Octets s → (r : Read cat s n) → Front (body (paperOf cat)) s (r .what)
 read-front {cat} {s} o r = accepted-front (lawful-body (paperOf cat) (good-paper cat)) s o (r .what) (r .body-is)
 
+pub read-okay : {cat : ℕ} {s : List ℕ} {n : ℕ} → Octets s → (r : Read cat s n) → T ((body (paperOf cat)) .okay (r .what))
+unfolding okayFrame
+read-okay {cat} o r = and-l ((body (paperOf cat)) .okay (r .what)) _ ((read-front o r) .okay)
+
+-- what is written afresh is a field, whatever follows
+module _ (cat : ℕ) (q : Contents) (k : T ((body (paperOf cat)) .okay q)) where
+  afresh-okay : T (okayFrame (body (paperOf cat)) q)
+  afresh-okay = okay-alone (paperOf cat) (le-trans (few-octets cat) (omega arith)) q k
+
+  pub afresh-read : (rest : List ℕ) → readFrame (body (paperOf cat)) (writeFrame (body (paperOf cat)) q ++ rest) ≡ accepted q
+  afresh-read rest = read-again (lawful-body (paperOf cat) (good-paper cat)) q afresh-okay rest
+
+  pub afresh-octets : Octets (writeFrame (body (paperOf cat)) q)
+  afresh-octets = frame-octets (lawful-body (paperOf cat) (good-paper cat)) q afresh-okay
+
 pub read-found : (cat : ℕ) (s : List ℕ) (n : ℕ) → readOf cat s .answer ≡ Accepted n → Read cat s n
 unfolding readOf shown fieldOf
 read-found cat s n e = go (known cat) refl (readFrame (body (paperOf cat)) s) refl e
@@ -65,6 +84,24 @@ read-found cat s n e = go (known cat) refl (readFrame (body (paperOf cat)) s) re
     }
     go true eb (refused m p) eo h = Refused≢Accepted h
     go false eb o eo h = Refused≢Accepted h
+
+-- ---- a survey answers as a reading does, and a refusal is the field's
+
+pub survey-answer : (cat : ℕ) (s : List ℕ) → surveyOf cat s .answer ≡ readOf cat s .answer
+unfolding surveyOf surveyed readOf shown
+survey-answer cat s = go (fieldOf cat s)
+  where
+    go : (o : Outcome Contents) → (surveyed cat s o) .answer ≡ (shown cat s o) .answer
+    go (accepted r) = refl
+    go (refused n p) = refl
+
+pub read-refused : (cat : ℕ) (s : List ℕ) {n p : ℕ} → readOf cat s .answer ≡ Refused n p → fieldOf cat s ≡ refused n p
+unfolding readOf shown
+read-refused cat s {n} {p} e = go (fieldOf cat s) e
+  where
+    go : (o : Outcome Contents) → (shown cat s o) .answer ≡ Refused n p → o ≡ refused n p
+    go (accepted r) h = Accepted≢Refused h
+    go (refused m q) h = cc
 
 -- ---- the same field read to a record
 

@@ -65,7 +65,7 @@ Hidden≢Shown h = absurd (subst IsShown (sym h) tt)
 -- ---- the part that a view names, of an item that is there or not
 
 module _ {cat : ℕ} {s : List ℕ} {n : ℕ} (r : Read cat s n) (item : ℕ) (h : T (isItem (paperOf cat) item)) where
-  item-low : 1 ≤ item
+  pub item-low : 1 ≤ item
   unfolding isItem
   item-low = leb→le 1 item (and-l (leb 1 item) _ h)
 
