@@ -1,0 +1,2 @@
+-- What the array holds between two items.
+pub mod Passing
