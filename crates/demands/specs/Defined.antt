@@ -9,6 +9,7 @@ use Rattle.scope.specs.Outputs.{withRoom, answerOf, after}
 use Rattle.scope.specs.Writing.{writeOf}
 use Rattle.scope.specs.Views.{viewOf, partOf, chooseOf, chosenOf}
 use Rattle.scope.specs.Desk.{editOf}
+use Rattle.scope.specs.Visitors.{copyOf}
 use Rattle.scope.specs.Sheet.{sheetOf}
 use Rattle.scope.specs.Angle.{udegOf}
 use Rattle.demands.specs.Demands.{Program}
@@ -22,6 +23,7 @@ program = record {
   read = readOf;
   write = λ f out. handed (writeOf f (length out)) out;
   edit = λ cat s list item ch out. handed (editOf cat s list item ch (length out)) out;
+  copy = λ cat s list out. handed (copyOf cat s list (length out)) out;
   view = viewOf;
   part = λ cat s item. partOf s (viewOf cat s item);
   choose = chooseOf;

@@ -21,6 +21,8 @@ pub record Program : Type 0 where
   pub write : Record → List ℕ → Answer × List ℕ
   -- desk::remove(cat, s, list, item, out), desk::replace(cat, s, list, item, new, out)
   pub edit : ℕ → List ℕ → ℕ → ℕ → Change → List ℕ → Answer × List ℕ
+  -- visitors::copy(cat, s, list, out)
+  pub copy : ℕ → List ℕ → ℕ → List ℕ → Answer × List ℕ
   -- views::view_answer(cat, s, item), views::view
   pub view : ℕ → List ℕ → ℕ → View
   pub part : ℕ → List ℕ → ℕ → List ℕ

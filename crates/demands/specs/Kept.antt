@@ -10,6 +10,7 @@ pub mod Parts
 pub mod Behind
 pub mod Reads
 pub mod Edits
+pub mod Visitors
 
 pub kept : Demands program
 kept = record { one = demand1; two = demand2; three = demand3 }

@@ -1,6 +1,7 @@
 -- What a reader has to believe, and that the program which scope defines is as demanded.
 pub mod Terms
 pub mod Demands
+pub mod Visitors
 pub mod Defined
 pub mod Kept
 pub mod Angles

@@ -6,9 +6,11 @@ pub use mathlib.Core.Logic.{_≢_}
 pub use mathlib.Core.Bool.{Bool, true, false, _&&_}
 pub use mathlib.Core.List.{List, [], _∷_, _++_}
 pub use Prim.Native.Nat.{ℕ, zero, suc, _+_, _-_, _*_, _^_, _≤_, _<_}
-pub use lib.Dec.{T, leb}
+pub use lib.Dec.{T, leb, eqb}
 pub use lib.IntN.{ℤ, pos}
 pub use lib.ListN.{length, take, drop, set, replicate}
+-- one of two by a test
+pub use Rattle.codec.specs.Pick.{pick}
 -- every element is below 256; LEN, the first octet of a field; a string that has LEN and all that LEN counts
 pub use Rattle.codec.specs.Codec.{Octets}
 pub use Rattle.codec.specs.Meaning.{lenOf}
