@@ -1,9 +1,10 @@
 /*
- * The Reserved Expansion Field of ASTERIX categories 048, 021 and 007: read, written, viewed, edited and listed.
+ * The Reserved Expansion Field of ASTERIX categories 048, 021 and 007: read, written, viewed, edited, copied and listed.
  *
  * The functions are proved: whatever the octets and numbers, each answers and leaves exactly what document 01 (01-scope.md)
- * says, and reads and writes only what it is lent. They keep no state and allocate nothing, so threads may call them at
- * once. Link target/staticlib/libexports.a, which `rt staticlib exports` writes, for x86-64 Linux. tests/c has an example.
+ * says, ref_copy what 02 (02-change-requests.md, Ask 5) says, and reads and writes only what it is lent. They keep no state
+ * and allocate nothing, so threads may call them at once. Link target/staticlib/libexports.a, which `rt staticlib exports`
+ * writes, for x86-64 Linux. tests/c has an example.
  *
  * Memory is lent for the call and not kept. Each pointer is followed by its count of elements; it is not NULL, also where
  * the count is 0. What is lent as const is only read, and may be lent twice. What is lent for writing (`record` of
@@ -206,6 +207,15 @@ uint64_t ref_remove(uint8_t cat, const uint8_t *field, size_t field_len, uint8_t
  */
 uint64_t ref_replace(uint8_t cat, const uint8_t *field, size_t field_len, uint8_t list, uint8_t item,
                      const uint8_t *new_octets, size_t new_len, uint8_t *out, size_t out_len);
+
+/*
+ * Copies a field without the items of a list, laid out as the indicator: what is withheld from visitors. The copy goes into
+ * the front of the output; the rest of the output is as before. Bits of no item have no effect.
+ * Two fields of one category whose items off the list are alike are answered alike and leave the same octets, whatever
+ * stands in the items on the list. How long it takes may tell them apart.
+ * Answers LEN of the copy. Refused, in this order: 1 to 9 for the field; 11 where the output is shorter than the copy.
+ */
+uint64_t ref_copy(uint8_t cat, const uint8_t *field, size_t field_len, uint8_t withheld, uint8_t *out, size_t out_len);
 
 /*
  * Writes the sheet of an input, a category octet and then a field, as text into the front of the output; the rest of the

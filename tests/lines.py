@@ -13,6 +13,7 @@ EXAMPLES = [  # a request of each form that is accepted
     b"choose 48 062806010000 0200 5",
     b"remove 48 062806010000 FF 3 300",
     b"replace 48 062806010000 FF 4 8007 300",
+    b"copy 48 062806010000 20 300",
 ]
 WORKED = [  # 01's worked octets, and lines by hand, with their answers
     (b"view 48 062806010000 5", "ok 3 3 010000"),
@@ -25,6 +26,12 @@ WORKED = [  # 01's worked octets, and lines by hand, with their answers
     (b"replace 48 062806010000 10 5 020000 300", "refused 13 0"),  # the list of RPC, which a decimal 10 would not be
     (b"choose 48 062806010000 0200 5", "ok 1 3 3 010000"),
     (b"choose 48 062806010000 0280 5", "refused 5 2 2"),
+    (b"copy 48 062806010000 20 300", "ok 0508010000"),
+    (b"copy 48 062806010000 20 5", "ok 0508010000"),
+    (b"copy 48 062806010000 20 4", "refused 11 0"),
+    (b"copy 48 062806010000 ff 2", "ok 0200"),
+    (b"copy 48 062806010000 07 6", "ok 062806010000"),
+    (b"copy 48 03200F FF 0", "refused 6 2"),
     (b"read 48 03200f", "refused 6 2"),
     (b"read 48 -", "refused 2 0"),
     (b"choose 6 - - 0", "refused 1 0 0"),
@@ -47,6 +54,9 @@ WORKED = [  # 01's worked octets, and lines by hand, with their answers
     (b"remove 48 062806010000 8 3 300", "bad-request 4"),
     (b"remove 48 062806010000 3 300", "bad-request 4"),
     (b"replace 48 062806010000 FF 4 300", "bad-request 6"),
+    (b"copy 48 062806010000 300", "bad-request 4"),
+    (b"copy 48 062806010000 8 300", "bad-request 4"),
+    (b"copy 48 062806010000 08", "bad-request 5"),
     (b"write 300 48 0" + b" 0" * 84, "bad-request 89"),
     (b"write 300 48 0" + b" 0" * 86, "bad-request 90"),
 ]

@@ -1,4 +1,5 @@
-"""An implementation of document 01 for the tests, written from 01 and the papers; it shares nothing with crates/.
+"""An implementation of document 01 and of the requests of 02 that are built, for the tests, written from these and the papers; it shares nothing with
+crates/.
 
 A record is (category, items, [8 parts], [77 numbers]). An operation answers ('ok', ..) or ('refused', number, place).
 """
@@ -226,6 +227,17 @@ def edit(cat, field, listed, item, new, room):
             raise Refusal(14, 0)
         indicator, texts[item - 1] = indicator | bit, new
     body = b"".join(texts)
+    if len(body) + 2 > room:
+        raise Refusal(11, 0)
+    return ("ok", bytes([len(body) + 2, indicator]) + body)
+
+
+@answered
+def copy(cat, field, withheld, room):
+    """02, Ask 5: the field without the items on the list."""
+    _, spans = walk(cat, field)
+    indicator = field[1] & ~withheld
+    body = b"".join(field[start:start + length] for i, (start, length) in enumerate(spans) if indicator >> (7 - i) & 1)
     if len(body) + 2 > room:
         raise Refusal(11, 0)
     return ("ok", bytes([len(body) + 2, indicator]) + body)

@@ -1,13 +1,14 @@
 #!/usr/bin/env python3
-"""01's worked octets, edits and longest fields, and edits and records written by hand, held against the reference implementation of the tests;
+"""01's worked octets, edits and longest fields, and edits, copies and records written by hand, held against the reference implementation of the tests;
 and the papers' data of crates/papers, as tests/slots.py takes it, held against the transcription of the tests. And that each public function has its wrong
 programs, as tests/ledger.py counts them."""
+import copies
 import ledger
 import slots
 from edits import BASE, WORKED
 from papers import MEASURES, PAPERS
 from reads import requests
-from reference import choose, edit, keys, read, sheet, size, SLOTS, spare_bits, udeg, view, write
+from reference import choose, copy, edit, keys, read, sheet, size, SLOTS, spare_bits, udeg, view, write
 
 h = bytes.fromhex
 
@@ -90,6 +91,32 @@ DESK = [  # by hand from 01: category, field, list, item, new octets, room, then
     (48, "05 80 10 3F D7", 0x00, 9, "", 0, (8, 3)),
     (48, "06 08 01 00 00 00", 0x00, 9, "", 0, (9, 5)),
     (48, "03 20 07", 0xFF, 3, "06", 52, (7, 2)),
+]
+
+COPIES = [  # by hand from 02, Ask 5: category, field, list of what is withheld, room, then the octets or the refusal
+    (48, "06 28 04 01 00 00 FF", 0x20, 5, "05 08 01 00 00"),
+    (48, "05 08 01 00 00", 0x20, 5, "05 08 01 00 00"),
+    (48, "05 08 01 00 00", 0x20, 4, 11),
+    (48, "09 68 01 80 1F 06 01 00 00", 0x40, 6, "06 28 06 01 00 00"),
+    (48, "09 68 01 80 1F 06 01 00 00", 0x28, 5, "05 40 01 80 1F"),
+    (48, "04 40 01 00", 0xBF, 4, "04 40 01 00"),
+    (48, "02 00", 0xFF, 2, "02 00"),
+    (48, "02 00 FF", 0x00, 1, 11),
+    (21, "05 81 0F FF 00", 0x01, 4, "04 80 0F FF"),
+    (21, "05 81 0F FF 00", 0x80, 3, "03 01 00"),
+    (21, "05 81 0F FF 00", 0x81, 2, "02 00"),
+    (21, "06 0C 0F FF FE 02", 0xF7, 5, "05 08 0F FF FE"),
+    (7, "07 A0 3F FF 00 19 06", 0x20, 6, "06 80 3F FF 00 19"),
+    (7, "07 A0 3F FF 00 19 06", 0x87, 3, "03 20 06"),
+    (49, "06 28 06 01 00 00", 0xFF, 52, 1),
+    (48, "", 0xFF, 0, 2),
+    (48, "01 28", 0xFF, 0, 3),
+    (48, "03 01 00", 0x01, 0, (4, 1)),
+    (48, "02 80", 0x80, 52, (5, 2)),
+    (48, "03 20 0F", 0x20, 0, (6, 2)),
+    (48, "04 40 01 01", 0x40, 52, (7, 3)),
+    (48, "05 80 10 3F D7", 0x80, 52, (8, 3)),
+    (48, "06 08 01 00 00 00", 0x08, 0, (9, 5)),
 ]
 
 WRITES = [  # by hand from 01 and the papers: category, items, {item: parts}, {slot: number}, room, then the octets or the refusal
@@ -225,6 +252,11 @@ for cat, field, listed, item, new, room, expected in [(48, BASE.hex(), *row[:3],
     got = edit(cat, h(field), listed, item, None if new is None else h(new), room)
     refusal = (expected, 0) if isinstance(expected, int) else expected
     assert got == (("ok", h(expected)) if isinstance(expected, str) else ("refused", *refusal)), (field, item, new, got)
+    checks += 1
+for cat, field, withheld, room, expected in [(48, copies.BASE.hex(), *row) for row in copies.WORKED] + COPIES:
+    got = copy(cat, h(field), withheld, room)
+    refusal = (expected, 0) if isinstance(expected, int) else expected
+    assert got == (("ok", h(expected)) if isinstance(expected, str) else ("refused", *refusal)), (field, withheld, got)
     checks += 1
 for cat, items, parts, numbers, room, expected in WRITES:
     record = (cat, items, [parts.get(i, 0) for i in range(1, 9)], [numbers.get(slot, 0) for slot in range(SLOTS)])

@@ -4,7 +4,7 @@
     python3 tests/vectors.py          says which of the two is not as it is made here
     python3 tests/vectors.py write    makes both
 
-The requests are those of tests/reads.py, records.py, edits.py and sheets.py, and the lines of tests/lines.py that are none; the answers are those of
+The requests are those of tests/reads.py, records.py, edits.py, copies.py and sheets.py, and the lines of tests/lines.py that are none; the answers are those of
 tests/refdesk.py. Nothing here comes from crates/.
 """
 import random
@@ -12,6 +12,7 @@ import sys
 from collections import Counter
 from pathlib import Path
 
+import copies
 import edits
 import reads
 import records
@@ -20,7 +21,7 @@ from lines import EXAMPLES, WORKED, WRONG, at_the_limits, either_case, noise
 from refdesk import answer, answers, line_of
 
 CRATE = Path(__file__).resolve().parent.parent / "crates" / "refdesk"
-SOURCES = (reads, records, edits, sheets)
+SOURCES = (reads, records, edits, copies, sheets)
 FIELD = {*range(1, 10), "ok"}
 DUE = {  # the answers that each form of request can give: all have to be there
     b"read": FIELD,
@@ -30,6 +31,7 @@ DUE = {  # the answers that each form of request can give: all have to be there
     b"choose": FIELD | {12, 15},
     b"remove": FIELD | {11, 12, 13},
     b"replace": FIELD | {11, 12, 13, 14},
+    b"copy": FIELD | {11},
 }
 
 

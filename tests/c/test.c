@@ -1,6 +1,6 @@
 /*
- * Calls each function of include/refdesk.h on accepted and refused inputs: the octets of 01's table, its edits, and the
- * order of the checks. What a call is lent lies between guards; after it every octet of both is compared.
+ * Calls each function of include/refdesk.h on accepted and refused inputs: the octets of 01's table, its edits, copies by
+ * hand, and the order of the checks. What a call is lent lies between guards; after it every octet of both is compared.
  */
 #include "refdesk.h"
 
@@ -396,6 +396,56 @@ static void test_edit(void)
     edit_as(&many, &new_octets);
 }
 
+/* ---- copies, by hand from 02, Ask 5 */
+
+static const struct copy_row {
+    uint8_t cat;
+    const char *field;
+    uint8_t withheld;
+    size_t room;
+    uint64_t word;
+    const char *result;
+} copy_rows[] = {
+    {48, "06 28 06 01 00 00", 0x00, 6, OK(6), "06 28 06 01 00 00"},
+    {48, "06 28 06 01 00 00", 0x20, 52, OK(5), "05 08 01 00 00"},
+    {48, "06 28 06 01 00 00", 0x20, 5, OK(5), "05 08 01 00 00"},
+    {48, "06 28 06 01 00 00", 0x20, 4, REFUSED(11, 0), ""},
+    {48, "06 28 04 01 00 00 99", 0x20, 5, OK(5), "05 08 01 00 00"},
+    {48, "05 08 01 00 00", 0x20, 5, OK(5), "05 08 01 00 00"},
+    {48, "05 08 01 00 00", 0x20, 4, REFUSED(11, 0), ""},
+    {48, "06 28 06 01 00 00", 0x08, 3, OK(3), "03 20 06"},
+    {48, "06 28 06 01 00 00", 0xD7, 6, OK(6), "06 28 06 01 00 00"},
+    {48, "06 28 06 01 00 00", 0x07, 6, OK(6), "06 28 06 01 00 00"},
+    {48, "06 28 06 01 00 00", 0xFF, 2, OK(2), "02 00"},
+    {48, "06 28 06 01 00 00", 0xFF, 1, REFUSED(11, 0), ""},
+    {48, "02 00", 0xFF, 2, OK(2), "02 00"},
+    {21, "05 81 0F FF 00", 0x01, 4, OK(4), "04 80 0F FF"},
+    {21, "05 81 0F FF 00", 0x80, 3, OK(3), "03 01 00"},
+    {7, "07 A0 3F FF 00 19 06", 0x20, 6, OK(6), "06 80 3F FF 00 19"},
+    {49, "02 00", 0xFF, 52, REFUSED(1, 0), ""},
+    {48, "", 0xFF, 52, REFUSED(2, 0), ""},
+    {48, "01 28", 0xFF, 52, REFUSED(3, 0), ""},
+    {48, "03 01 00", 0xFF, 0, REFUSED(4, 1), ""},
+    {48, "02 80", 0x80, 52, REFUSED(5, 2), ""},
+    {48, "03 20 0F", 0x20, 0, REFUSED(6, 2), ""},
+    {48, "04 40 01 01", 0x40, 52, REFUSED(7, 3), ""},
+    {48, "05 80 10 3F D7", 0x80, 52, REFUSED(8, 3), ""},
+    {48, "06 08 01 00 00 00", 0x08, 0, REFUSED(9, 5), ""},
+};
+
+static void test_copy(void)
+{
+    for (size_t i = 0; i < COUNT(copy_rows); i++) {
+        const struct copy_row *row = copy_rows + i;
+        struct octets field = hex(row->field), lent = field, result = hex(row->result), out = filled(row->room);
+        struct octets after = REF_NUMBER(row->word) == 0 ? fronted(out, &result) : out;
+        uint64_t got = ref_copy(row->cat, lent.all + GUARD, lent.n, row->withheld, out.all + GUARD, out.n);
+        check(got == row->word, "word of ref_copy", row->field, row->withheld);
+        check(same_octets(&out, &after), "output of ref_copy", row->field, row->withheld);
+        check(same_octets(&lent, &field), "field of ref_copy", row->field, row->withheld);
+    }
+}
+
 /* ---- ref_sheet: the texts are 01's worked sheet, and others by hand from its section 'The sheet' */
 
 static const struct sheet_row {
@@ -453,6 +503,7 @@ int main(void)
     test_view();
     test_choose();
     test_edit();
+    test_copy();
     test_sheet();
     printf("%u checks, %u wrong\n", checks, failures);
     return failures != 0;

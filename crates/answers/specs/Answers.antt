@@ -14,6 +14,7 @@ use Rattle.scope.specs.Writing.{writeOf}
 use Rattle.scope.specs.Sheet.{sheetOf}
 use Rattle.scope.specs.Views.{viewOf, partOf, chooseOf, chosenOf}
 use Rattle.scope.specs.Desk.{editOf}
+use Rattle.scope.specs.Visitors.{copyOf}
 use Rattle.words.specs.Numbers.{valueIn}
 use Rattle.hex.specs.Octets.{octetsIn, listIn}
 use Rattle.protocol.specs.Line.{wordsOf, nth}
@@ -75,11 +76,15 @@ removeAnswer word = outputText (editOf (CAT (word 1)) (octetsIn (word 2)) (listI
 unfoldable pub replaceAnswer : (ℕ → List ℕ) → List ℕ
 replaceAnswer word = outputText (editOf (CAT (word 1)) (octetsIn (word 2)) (listIn (word 3)) (ITEM (word 4)) (put (octetsIn (word 5))) (ROOM (word 6)))
 
+-- `copy CAT FIELD WITHHELD ROOM`
+unfoldable pub copyAnswer : (ℕ → List ℕ) → List ℕ
+copyAnswer word = outputText (copyOf (CAT (word 1)) (octetsIn (word 2)) (listIn (word 3)) (ROOM (word 4)))
+
 -- ---- a line
 
 -- a request by its number in the table of forms, with its words one by one and all from one on
 unfoldable pub asked : ℕ → (ℕ → List ℕ) → (ℕ → List (List ℕ)) → List ℕ
-unfolding readAnswer writeAnswer sheetAnswer viewAnswer chooseAnswer removeAnswer replaceAnswer
+unfolding readAnswer writeAnswer sheetAnswer viewAnswer chooseAnswer removeAnswer replaceAnswer copyAnswer
 asked q word from =
     pick (eqb q 0) (readAnswer word)
     (pick (eqb q 1) (writeAnswer word from)
@@ -87,7 +92,8 @@ asked q word from =
     (pick (eqb q 3) (viewAnswer word)
     (pick (eqb q 4) (chooseAnswer word)
     (pick (eqb q 5) (removeAnswer word)
-    (pick (eqb q 6) (replaceAnswer word) (badRequest 1)))))))
+    (pick (eqb q 6) (replaceAnswer word)
+    (pick (eqb q 7) (copyAnswer word) (badRequest 1))))))))
 
 unfoldable pub said : Judged → (ℕ → List ℕ) → (ℕ → List (List ℕ)) → List ℕ
 unfolding asked

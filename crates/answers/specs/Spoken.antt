@@ -20,6 +20,7 @@ use Rattle.scope.specs.Reading.{fieldOf, shown, readOf}
 use Rattle.scope.specs.Outputs.{withRoom}
 use Rattle.scope.specs.Views.{isItem, present, standing, viewIn, viewOf, partOf, chooseIn, chooseOf, sideOf, chosenOf}
 use Rattle.scope.specs.Desk.{listed as onList, afresh, editIn, editOf}
+use Rattle.scope.specs.Visitors.{without, copyIn, copyOf}
 use Rattle.scope.specs.Sheet.{digitsOf, decimal, signedDecimal, numberText, numbersText, partsThere, subfieldsThere, linesThere, linesText, chainText, itemText, rowText, itemsText, fieldText, sheetOf, keyLine}
 use Rattle.text.specs.Decimals.{valueFrom, valueOf, isDigit}
 use Rattle.text.specs.Laws.Decimals.{areDigits}
@@ -29,7 +30,7 @@ use Rattle.hex.specs.Octets.{hexDigit, areHex, isOctets, octetOf, octetsOf, oct
 use Rattle.protocol.specs.Line.{glued, wordsOf, same}
 use Rattle.protocol.specs.Forms.{fits, forms, firstWrong, judgedAs, judgedBy, parseOf}
 use Rattle.replies.specs.Texts.{next, nextSigned, nextOctets, badRequest, refusalText, outputText, shownText, viewText, choiceIn, choiceText, wordsText, recordText, readIn, readingText, inLine, lineOctet, sheetText}
-use Rattle.answers.specs.Answers.{listed, readAnswer, writeAnswer, sheetAnswer, viewAnswer, chooseAnswer, removeAnswer, replaceAnswer, asked, said, answerOf}
+use Rattle.answers.specs.Answers.{listed, readAnswer, writeAnswer, sheetAnswer, viewAnswer, chooseAnswer, removeAnswer, replaceAnswer, copyAnswer, asked, said, answerOf}
 
 pub record Spoken : Type 0 where
   pub asked : String
@@ -54,6 +55,9 @@ spoken =
     ∷ record { asked = "replace 48 062806010000 ff 4 8007 300"; told = "ok 0838068007010000\n" }
     ∷ record { asked = "replace 48 062806010000 30 5 020000 300"; told = "refused 13 0\n" }
     ∷ record { asked = "replace 48 062806010000 FF 4 8007 7"; told = "refused 11 0\n" }
+    ∷ record { asked = "copy 48 062806010000 20 5"; told = "ok 0508010000\n" }
+    ∷ record { asked = "copy 48 062806010000 20 4"; told = "refused 11 0\n" }
+    ∷ record { asked = "copy 48 03200F FF 0"; told = "refused 6 2\n" }
     -- no request: nothing, another name, a list in decimal, a record that is cut short
     ∷ record { asked = ""; told = "bad-request 1\n" }
     ∷ record { asked = "Read 48 0200"; told = "bad-request 1\n" }
@@ -62,5 +66,5 @@ spoken =
     ∷ []
 
 pub spoken-answers : map (λ (x : Spoken). answerOf (text (x .asked))) spoken ≡ map (λ (x : Spoken). text (x .told)) spoken
-unfolding spoken listed readAnswer writeAnswer sheetAnswer viewAnswer chooseAnswer removeAnswer replaceAnswer asked said answerOf next nextSigned nextOctets badRequest refusalText outputText shownText viewText choiceIn choiceText wordsText recordText readIn readingText inLine lineOctet sheetText glued wordsOf same fits forms firstWrong judgedAs judgedBy parseOf leads goesOn isNumber isSigned valueIn hexDigit areHex isOctets octetOf octetsOf octetsIn isList listIn valueFrom valueOf isDigit areDigits capital pairText pairsText hexText fieldOf shown readOf withRoom isItem present standing viewIn viewOf partOf chooseIn chooseOf sideOf chosenOf onList afresh editIn editOf digitsOf decimal signedDecimal numberText numbersText partsThere subfieldsThere linesThere linesText chainText itemText rowText itemsText fieldText sheetOf keyLine cat048 known paperOf whichNumber names048 namesOf allParts allNumbers allSlots flatten toSigned ofSigned total cut join number toNum ofNum limit widths count clear nums unnums inLimits cells line slotsOf slots beside fxOf chain isOne subfields item linesOf uncons firstFlag nextFlags row allZero indicator body texts textsOf before lenOf settle readFrame writeFrame setFlag setItem blankAt alone putIn change
+unfolding spoken listed readAnswer writeAnswer sheetAnswer viewAnswer chooseAnswer removeAnswer replaceAnswer copyAnswer asked said answerOf next nextSigned nextOctets badRequest refusalText outputText shownText viewText choiceIn choiceText wordsText recordText readIn readingText inLine lineOctet sheetText glued wordsOf same fits forms firstWrong judgedAs judgedBy parseOf leads goesOn isNumber isSigned valueIn hexDigit areHex isOctets octetOf octetsOf octetsIn isList listIn valueFrom valueOf isDigit areDigits capital pairText pairsText hexText fieldOf shown readOf withRoom isItem present standing viewIn viewOf partOf chooseIn chooseOf sideOf chosenOf onList afresh editIn editOf without copyIn copyOf digitsOf decimal signedDecimal numberText numbersText partsThere subfieldsThere linesThere linesText chainText itemText rowText itemsText fieldText sheetOf keyLine cat048 known paperOf whichNumber names048 namesOf allParts allNumbers allSlots flatten toSigned ofSigned total cut join number toNum ofNum limit widths count clear nums unnums inLimits cells line slotsOf slots beside fxOf chain isOne subfields item linesOf uncons firstFlag nextFlags row allZero indicator body texts textsOf before lenOf settle readFrame writeFrame setFlag setItem blankAt alone putIn change
 spoken-answers = refl

@@ -1,6 +1,6 @@
 // The C interface: each operation as a function that a program in C calls, declared in include/refdesk.h.
 // Promises: the word that is answered, and every element of lent memory afterwards, are those of 01's definitions, for every input; a refusal writes nothing.
-// Stands on reader, arrays, views, desk and sheet, which it knows by their contracts.
+// Stands on reader, arrays, views, desk, visitors and sheet, which it knows by their contracts.
 ghost use mathlib.Core.Path.{_≡_};
 ghost use lib.ListN.{length};
 ghost use Rattle.codec.specs.Change.{remove, put};
@@ -10,6 +10,7 @@ ghost use Rattle.scope.specs.Outputs.{withRoom};
 ghost use Rattle.scope.specs.Sheet.{sheetOf};
 ghost use Rattle.scope.specs.Views.{viewOf, chooseOf};
 ghost use Rattle.scope.specs.Desk.{editOf};
+ghost use Rattle.scope.specs.Visitors.{copyOf};
 ghost use Rattle.interface.specs.Packed.{wordOf, Fit, answerWord, sideWord, viewWord, choiceWord, Hands};
 ghost use Rattle.interface.specs.Arrays.{Fills, writeArray};
 use layout::Answer;
@@ -107,6 +108,15 @@ pub extern "C" fn ref_replace(
     ensures { λ r. ⌜ Hands (editOf cat (now (field .entry)) list item (put (now (new .entry))) (length (now (out .entry)))) (now (out .entry)) r (now (out .exit)) ⌝ }
 {
     let done = desk::replace(cat, field, list, item, new, &mut *out);
+    answer_word(done)
+}
+
+// A field without the items that are withheld, into the front of the output.
+#[no_mangle]
+pub extern "C" fn ref_copy(cat: u8, field: &[u8], withheld: u8, out: &mut [u8]) -> u64
+    ensures { λ r. ⌜ Hands (copyOf cat (now (field .entry)) withheld (length (now (out .entry)))) (now (out .entry)) r (now (out .exit)) ⌝ }
+{
+    let done = visitors::copy(cat, field, withheld, &mut *out);
     answer_word(done)
 }
 

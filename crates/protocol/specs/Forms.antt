@@ -45,6 +45,7 @@ forms =
     ∷ record { name = text "choose"; kinds = text "COOI" }  -- 4
     ∷ record { name = text "remove"; kinds = text "COLIR" }  -- 5
     ∷ record { name = text "replace"; kinds = text "COLIOR" }  -- 6
+    ∷ record { name = text "copy"; kinds = text "COLR" }  -- 7
     ∷ []
 
 -- the number of the first word that is wrong: not of its kind, missing, or one too many; n is the number of the first of them, 0 says that none is

@@ -22,6 +22,7 @@ worked =
     ∷ record { line = "sheet 48 -"; says = Asks 2 }
     ∷ record { line = "remove 48 062806010000 f8 3 300"; says = Asks 5 }
     ∷ record { line = "replace 48 062806010000 30 4 8007 300"; says = Asks 6 }
+    ∷ record { line = "copy 48 062806010000 20 300"; says = Asks 7 }
     -- another name, a word less, a word more, an empty word, digits that are none, a number past its limit, a list that is decimal
     ∷ record { line = ""; says = Wrong 1 }
     ∷ record { line = " read 48 0200"; says = Wrong 1 }

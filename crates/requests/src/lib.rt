@@ -10,10 +10,11 @@ ghost use Rattle.scope.specs.Desk.{editOf};
 ghost use Rattle.scope.specs.Reading.{readOf};
 ghost use Rattle.scope.specs.Sheet.{sheetOf};
 ghost use Rattle.scope.specs.Views.{viewOf, chooseOf};
+ghost use Rattle.scope.specs.Visitors.{copyOf};
 ghost use Rattle.scope.specs.Writing.{writeOf};
 ghost use Rattle.text.specs.Typing.{Types};
 ghost use Rattle.replies.specs.Texts.{outputText};
-ghost use Rattle.answers.specs.Answers.{viewed, chosen, listed, readAnswer, writeAnswer, sheetAnswer, viewAnswer, chooseAnswer, removeAnswer, replaceAnswer, asked, answerOf};
+ghost use Rattle.answers.specs.Answers.{viewed, chosen, listed, readAnswer, writeAnswer, sheetAnswer, viewAnswer, chooseAnswer, removeAnswer, replaceAnswer, copyAnswer, asked, answerOf};
 ghost use Rattle.requests.specs.Laws.Requests.{wordIn, wordsFrom};
 use layout::Answer;
 use layout::Record;
@@ -76,6 +77,13 @@ fn replaced<'a>(
     ensures { λ r. ⌜ Types (outputText (editOf cat (now (field .entry)) list item (put (now (new .entry))) (length (now (out .entry))))) (now (buf .entry)) 0 (now (buf .exit)) r ⌝ }
 {
     let answer = desk::replace(cat, field, list, item, new, &mut *out);
+    replies::left(answer, out, &mut *buf)
+}
+
+fn copied(cat: u8, field: &[u8], withheld: u8, out: &mut [u8], buf: &mut [u8; 4096]) -> usize
+    ensures { λ r. ⌜ Types (outputText (copyOf cat (now (field .entry)) withheld (length (now (out .entry))))) (now (buf .entry)) 0 (now (buf .exit)) r ⌝ }
+{
+    let answer = visitors::copy(cat, field, withheld, &mut *out);
     replies::left(answer, out, &mut *buf)
 }
 
@@ -196,6 +204,18 @@ fn replace(line: &[u8], starts: &[usize; 10], buf: &mut [u8; 4096]) -> usize
     )
 }
 
+fn copy(line: &[u8], starts: &[usize; 10], buf: &mut [u8; 4096]) -> usize
+    ensures { λ r. ⌜ Types (copyAnswer (wordIn (now (line .entry)) (now (starts .entry)))) (now (buf .entry)) 0 (now (buf .exit)) r ⌝ }
+{
+    let mut field = blank();
+    let mut out = output();
+    let cat = words::small(word(line, starts, 1));
+    let n = hex::octets(word(line, starts, 2), &mut field);
+    let withheld = hex::list(word(line, starts, 3));
+    let room = words::room(word(line, starts, 4));
+    copied(cat, &field[..n], withheld, &mut out[..room], &mut *buf)
+}
+
 // ---- a line
 
 fn asked(q: usize, line: &[u8], starts: &[usize; 10], buf: &mut [u8; 4096]) -> usize
@@ -210,6 +230,7 @@ fn asked(q: usize, line: &[u8], starts: &[usize; 10], buf: &mut [u8; 4096]) -> u
         4 => choose(line, starts, &mut *buf),
         5 => remove(line, starts, &mut *buf),
         6 => replace(line, starts, &mut *buf),
+        7 => copy(line, starts, &mut *buf),
         _ => replies::bad_request(1, &mut *buf),
     }
 }

@@ -16,7 +16,7 @@ use Rattle.codec.specs.Change.{Change, remove, put, change}
 use Rattle.codec.specs.Meaning.{lenOf}
 use Rattle.codec.specs.Laws.Tests.{and-l}
 use Rattle.codec.specs.Laws.Codec.{octets-cons}
-use Rattle.papers.specs.Papers.{known, paperOf}
+use Rattle.papers.specs.Papers.{known, paperOf, itemsOf}
 use Rattle.layout.specs.declared.Answer.{Answer}
 use Rattle.layout.specs.declared.Answer.the-variants.{Accepted, Refused}
 use Rattle.layout.specs.declared.Record.{Record}
@@ -30,6 +30,7 @@ use Rattle.scope.specs.Writing.{writable, written, writeOf}
 use Rattle.scope.specs.Sheet.{sheetOf}
 use Rattle.scope.specs.Views.{isItem, present, standing, viewIn, viewOf, partOf, chooseIn, chooseOf, sideOf, chosenOf}
 use Rattle.scope.specs.Desk.{listed as onList, afresh, editIn, editOf}
+use Rattle.scope.specs.Visitors.{without, copyIn, copyOf}
 use Rattle.scope.specs.Laws.Views.{view-inside}
 use Rattle.longest.specs.Longest.{longestSheet}
 use Rattle.text.specs.Typing.{Types}
@@ -45,7 +46,7 @@ use Rattle.protocol.specs.declared.Judged.{Judged}
 use Rattle.protocol.specs.declared.Judged.the-variants.{Asks, Wrong}
 use Rattle.replies.specs.Texts.{badRequest, outputText, readingText, choiceText}
 use Rattle.answers.specs.Laws.Texts.{bad-most, refusal-most, view-most, choice-most, read-most, output-most, sheet-most}
-use Rattle.answers.specs.Answers.{listed, readAnswer, writeAnswer, sheetAnswer, viewAnswer, chooseAnswer, removeAnswer, replaceAnswer, asked, said, answerOf}
+use Rattle.answers.specs.Answers.{listed, readAnswer, writeAnswer, sheetAnswer, viewAnswer, chooseAnswer, removeAnswer, replaceAnswer, copyAnswer, asked, said, answerOf}
 
 -- ---- what an operation puts into an output of at most 300 octets
 
@@ -91,6 +92,14 @@ edit-most cat s list item ch room = by-field (fieldOf cat s)
     by-field : (o : Outcome Contents) → AtMost room (editIn (paperOf cat) list item ch room o)
     by-field (refused n p) = refused-most room n p
     by-field (accepted r) = by-tests (isItem (paperOf cat) item) (onList list item) (afresh (paperOf cat) room (change (paperOf cat) (item - 1) ch r)) (by-change (change (paperOf cat) (item - 1) ch r))
+
+copy-most : (cat : ℕ) (s : List ℕ) (withheld room : ℕ) → AtMost room (copyOf cat s withheld room)
+unfolding copyOf copyIn
+copy-most cat s withheld room = by-field (fieldOf cat s)
+  where
+    by-field : (o : Outcome Contents) → AtMost room (copyIn (paperOf cat) withheld room o)
+    by-field (refused n p) = refused-most room n p
+    by-field (accepted r) = with-room room (writeFrame (body (paperOf cat)) (without (paperOf cat) withheld (itemsOf cat) r))
 
 -- ---- the octets that a word writes are octets
 
@@ -196,6 +205,10 @@ module _ (word : ℕ → List ℕ) where
   replace-answer-most =
       output-room (word 6) _ (edit-most (valueIn 255 (word 1)) (octetsIn (word 2)) (listIn (word 3)) (valueIn 255 (word 4)) (put (octetsIn (word 5))) (valueIn 300 (word 6)))
 
+  copy-answer-most : length (copyAnswer word) ≤ 2_000
+  unfolding copyAnswer
+  copy-answer-most = output-room (word 4) _ (copy-most (valueIn 255 (word 1)) (octetsIn (word 2)) (listIn (word 3)) (valueIn 300 (word 4)))
+
   write-answer-most : (from : ℕ → List (List ℕ)) → length (writeAnswer word from) ≤ 2_000
   unfolding writeAnswer
   write-answer-most from = output-room (word 1) _ (write-most (recordIn (from 2)) (valueIn 300 (word 1)))
@@ -213,7 +226,8 @@ asked-most q word from =
     (either-most (eqb q 3) _ _ (view-answer-most word)
     (either-most (eqb q 4) _ _ (choose-answer-most word)
     (either-most (eqb q 5) _ _ (remove-answer-most word)
-    (either-most (eqb q 6) _ _ (replace-answer-most word) (omega (arith, bad-most 1))))))))
+    (either-most (eqb q 6) _ _ (replace-answer-most word)
+    (either-most (eqb q 7) _ _ (copy-answer-most word) (omega (arith, bad-most 1)))))))))
 
 said-most : (j : Judged) (word : ℕ → List ℕ) (from : ℕ → List (List ℕ)) → length (said j word from) ≤ 2_000
 unfolding said

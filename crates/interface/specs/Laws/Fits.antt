@@ -17,7 +17,9 @@ use Rattle.codec.specs.Change.{Change, remove, put, alone, putIn, change}
 use Rattle.codec.specs.Laws.Change.{newOctets}
 use Rattle.codec.specs.Laws.Tests.{and-l, and-r}
 use Rattle.codec.specs.Laws.Within.{PlaceTo, within-body, frame-place}
-use Rattle.papers.specs.Papers.{known, paperOf}
+use Rattle.codec.specs.Laws.Longest.{field-size}
+use Rattle.papers.specs.Papers.{known, paperOf, itemsOf}
+use Rattle.papers.specs.Laws.Papers.{few-octets}
 use Rattle.layout.specs.declared.Record.{Record}
 use Rattle.layout.specs.declared.Reading.{Reading}
 use Rattle.layout.specs.declared.Answer.{Answer}
@@ -34,6 +36,7 @@ use Rattle.scope.specs.Outputs.{withRoom, answerOf}
 use Rattle.scope.specs.Sheet.{sheetOf}
 use Rattle.scope.specs.Views.{isItem, present, standing, viewIn, viewOf, chooseIn, chooseOf}
 use Rattle.scope.specs.Desk.{listed, afresh, editIn, editOf}
+use Rattle.scope.specs.Visitors.{without, copyIn, copyOf}
 use Rattle.scope.specs.Laws.Reading.{read-found}
 use Rattle.scope.specs.Laws.Refusals.{place-within}
 use Rattle.scope.specs.Laws.Views.{view-inside}
@@ -225,6 +228,22 @@ edit-fits cat s list item ch room os on = outcome-fits (editOf cat s list item c
         let h : p ≤ lenOf s = edit-place (paperOf cat) list item ch room (lenOf s) (fieldOf cat s) (field-place cat s) e in
         let l : lenOf s < 256 = len-octet s os in
         omega arith
+
+-- ---- copies
+
+room-fits : (room : ℕ) (b : List ℕ) → length b < 256 → FitOutcome (withRoom room b)
+unfolding withRoom FitOutcome
+room-fits room b h = pick-fits (leb (length b) room) (accepted b) (refused 11 0) (λ _. h) (omega arith)
+
+pub copy-fits : (cat : ℕ) (s : List ℕ) (withheld room : ℕ) → Octets s → FitAnswer (answerOf (copyOf cat s withheld room))
+unfolding FitOutcome copyOf copyIn
+copy-fits cat s withheld room os = outcome-fits (copyOf cat s withheld room) (go (fieldOf cat s) (field-place cat s))
+  where
+    go : (o : Outcome Contents) → PlaceTo (lenOf s) o → FitOutcome (copyIn (paperOf cat) withheld room o)
+    go (refused n p) h = omega (arith, h, len-octet s os)
+    go (accepted r) h =
+        let q : Contents = without (paperOf cat) withheld (itemsOf cat) r in
+        room-fits room (writeFrame (body (paperOf cat)) q) (omega (arith, field-size (paperOf cat) q, few-octets cat))
 
 -- ---- sheets: the longest is longer than a field, and fits too
 

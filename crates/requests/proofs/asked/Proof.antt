@@ -55,12 +55,19 @@ returns-7 c =
     asked-as (a .q) (wordIn (now (a .line)) (now (a .starts))) (wordsFrom (now (a .line)) (now (a .starts))) 6 (m .match .keys7) (c .replace .ensures)
 
 returns-8 : tie.Need-returns-8
+unfolding asked
 returns-8 c =
+    let m = c .before .before in
+    let a = m .before .before .args in
+    asked-as (a .q) (wordIn (now (a .line)) (now (a .starts))) (wordsFrom (now (a .line)) (now (a .starts))) 7 (m .match .keys8) (c .copy .ensures)
+
+returns-9 : tie.Need-returns-9
+returns-9 c =
     let m = c .before .before in
     let a = m .before .before .args in
     let r = m .match .rest in
     none-asked (a .q) (wordIn (now (a .line)) (now (a .starts))) (wordsFrom (now (a .line)) (now (a .starts)))
-    (r .0 .0 .0 .0 .0 .0 .1) (r .0 .0 .0 .0 .0 .1) (r .0 .0 .0 .0 .1) (r .0 .0 .0 .1) (r .0 .0 .1) (r .0 .1) (r .1) (c .bad-request .ensures)
+    (r .0 .0 .0 .0 .0 .0 .0 .1) (r .0 .0 .0 .0 .0 .0 .1) (r .0 .0 .0 .0 .0 .1) (r .0 .0 .0 .0 .1) (r .0 .0 .0 .1) (r .0 .0 .1) (r .0 .1) (r .1) (c .bad-request .ensures)
 
 pub asked-spec : {M : Type 1} → statement M
 asked-spec =
@@ -74,6 +81,7 @@ asked-spec =
     (λ c κs. tt)
     (λ c κs. tt)
     (λ c κs. tt)
+    (λ c κs. tt)
     returns
     returns-2
     returns-3
@@ -81,4 +89,5 @@ asked-spec =
     returns-5
     returns-6
     returns-7
-    returns-8)
+    returns-8
+    returns-9)

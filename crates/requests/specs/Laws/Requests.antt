@@ -19,6 +19,7 @@ use Rattle.scope.specs.Writing.{writeOf}
 use Rattle.scope.specs.Sheet.{sheetOf}
 use Rattle.scope.specs.Views.{viewOf, chooseOf}
 use Rattle.scope.specs.Desk.{editOf}
+use Rattle.scope.specs.Visitors.{copyOf}
 use Rattle.text.specs.Typing.{Types}
 use Rattle.text.specs.Laws.Typing.{types-as, types-behind}
 use Rattle.words.specs.Lines.{wordOf}
@@ -33,7 +34,7 @@ use Rattle.protocol.specs.Laws.Record.{record-short}
 use Rattle.protocol.specs.declared.Judged.the-variants.{Asks, Wrong}
 use Rattle.protocol.specs.declared.Parsed.{Parsed}
 use Rattle.replies.specs.Texts.{badRequest, refusalText, outputText, readingText, sheetText}
-use Rattle.answers.specs.Answers.{listed, viewed, chosen, readAnswer, writeAnswer, sheetAnswer, viewAnswer, chooseAnswer, removeAnswer, replaceAnswer, asked, said, answerOf}
+use Rattle.answers.specs.Answers.{listed, viewed, chosen, readAnswer, writeAnswer, sheetAnswer, viewAnswer, chooseAnswer, removeAnswer, replaceAnswer, copyAnswer, asked, said, answerOf}
 
 -- the word of a line that starts at a place of the parser's, and all words from it on
 abbrev pub wordIn : List ℕ → List ℕ → ℕ → List ℕ
@@ -84,6 +85,10 @@ module _ (word : ℕ → List ℕ) {l m : List ℕ} {last : ℕ} where
     unfolding chooseAnswer
     choose-said eg ei x = rw (← ec, ← ef, ← eg, ← ei) x
 
+    pub copy-said : {withheld room : ℕ} → withheld ≡ listIn (word 3) → room ≡ valueIn 300 (word 4) → Types (outputText (copyOf c f withheld room)) l 0 m last → Types (copyAnswer word) l 0 m last
+    unfolding copyAnswer
+    copy-said ew er x = rw (← ec, ← ef, ← ew, ← er) x
+
     module _ {list item : ℕ} (el : list ≡ listIn (word 3)) (ei : item ≡ valueIn 255 (word 4)) where
       pub remove-said : {room : ℕ} → room ≡ valueIn 300 (word 5) → Types (outputText (editOf c f list item remove room)) l 0 m last → Types (removeAnswer word) l 0 m last
       unfolding removeAnswer
@@ -103,16 +108,16 @@ module _ (q : ℕ) (word : ℕ → List ℕ) (from : ℕ → List (List ℕ)) {l
   pub asked-as : (k : ℕ) → q ≡ k → Types (asked k word from) l 0 m last → Types (asked q word from) l 0 m last
   asked-as k e x = rw e x
 
-  pub none-asked : (q ≡ 0 → ⊥) → (q ≡ 1 → ⊥) → (q ≡ 2 → ⊥) → (q ≡ 3 → ⊥) → (q ≡ 4 → ⊥) → (q ≡ 5 → ⊥) → (q ≡ 6 → ⊥)
+  pub none-asked : (q ≡ 0 → ⊥) → (q ≡ 1 → ⊥) → (q ≡ 2 → ⊥) → (q ≡ 3 → ⊥) → (q ≡ 4 → ⊥) → (q ≡ 5 → ⊥) → (q ≡ 6 → ⊥) → (q ≡ 7 → ⊥)
       → Types (badRequest 1) l 0 m last → Types (asked q word from) l 0 m last
   unfolding asked
-  none-asked a b c d e f g x = rw (ne-eqb q 0 a, ne-eqb q 1 b, ne-eqb q 2 c, ne-eqb q 3 d, ne-eqb q 4 e, ne-eqb q 5 f, ne-eqb q 6 g) x
+  none-asked a b c d e f g h x = rw (ne-eqb q 0 a, ne-eqb q 1 b, ne-eqb q 2 c, ne-eqb q 3 d, ne-eqb q 4 e, ne-eqb q 5 f, ne-eqb q 6 g, ne-eqb q 7 h) x
 
 -- ---- the whole line
 
 -- only the first words are looked at, and all from the third on
 same-asked : (q : ℕ) (u v : ℕ → List ℕ) (f g : ℕ → List (List ℕ)) → ((k : ℕ) → k < 10 → u k ≡ v k) → ((k : ℕ) → k < 10 → f k ≡ g k) → asked q u f ≡ asked q v g
-unfolding asked readAnswer writeAnswer sheetAnswer viewAnswer chooseAnswer removeAnswer replaceAnswer
+unfolding asked readAnswer writeAnswer sheetAnswer viewAnswer chooseAnswer removeAnswer replaceAnswer copyAnswer
 same-asked q u v f g h i = rw (h 1 (omega arith), h 2 (omega arith), h 3 (omega arith), h 4 (omega arith), h 5 (omega arith), h 6 (omega arith), i 2 (omega arith)) refl
 
 -- a request stands in a line that is not too long, so the places are those of its words
