@@ -27,6 +27,9 @@ use Rattle.desk.proofs.remove.Reads as remove-claims
 use Rattle.desk.proofs.replace.Statement as replace
 use Rattle.desk.proofs.replace.Met as replace-met
 use Rattle.desk.proofs.replace.Reads as replace-claims
+use Rattle.visitors.proofs.copy.Statement as copy
+use Rattle.visitors.proofs.copy.Met as copy-met
+use Rattle.visitors.proofs.copy.Reads as copy-claims
 use Rattle.views.proofs.view_answer.Statement as view-answer
 use Rattle.views.proofs.view_answer.Met as view-answer-met
 use Rattle.views.proofs.view_answer.Reads as view-answer-claims
@@ -71,6 +74,9 @@ pub record Computes (p : Program) : Type 2 where
       (λ args a ends. Handed a (now (ends .1 .1 .1 .1 .1 .0))
       (p .edit (args .0) (now (args .1 .0)) (args .1 .1 .0) (args .1 .1 .1 .0) (put (now (args .1 .1 .1 .1 .0)))
       (now (args .1 .1 .1 .1 .1 .0))))
+  pub copies : Runs copy.statement copy-claims.Pre copy-claims.Post
+      (λ args a ends. Handed a (now (ends .1 .1 .1 .0))
+      (p .copy (args .0) (now (args .1 .0)) (args .1 .1 .0) (now (args .1 .1 .1 .0))))
   -- the part is the very part of the lent field, in memory too
   pub view-answer : Runs view-answer.statement view-answer-claims.Pre view-answer-claims.Post
       (λ args v ends. v ≡ p .view (args .0) (now (args .1 .0)) (args .1 .1 .0))
@@ -96,6 +102,7 @@ computed = record {
   write = record { runs = write-met.met; asks = λ lives args. tt; gives = λ lives args a ends. handing };
   removes = record { runs = remove-met.met; asks = λ lives args. tt; gives = λ lives args a ends. handing };
   replaces = record { runs = replace-met.met; asks = λ lives args. tt; gives = λ lives args a ends. handing };
+  copies = record { runs = copy-met.met; asks = λ lives args. tt; gives = λ lives args a ends. handing };
   view-answer = record { runs = view-answer-met.met; asks = λ lives args. tt; gives = λ lives args v ends p. p };
   view = record { runs = view-met.met; asks = λ lives args. tt; gives = λ lives args x ends p. p };
   choose-answer = record { runs = choose-answer-met.met; asks = λ lives args. tt; gives = λ lives args c ends p. p };

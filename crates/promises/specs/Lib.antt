@@ -1,5 +1,7 @@
--- What holds of the whole: the code computes a program that is as demanded, every promise allows one result, and a program in C has both round trips.
+-- What holds of the whole: the code computes a program that is as demanded, every promise allows one result, two runs
+-- of the visitors' copy tell nothing of what is withheld, and a program in C has both round trips.
 pub mod Code
 pub mod Top
 pub mod Unique
+pub mod Copies
 pub mod Trips
