@@ -3,14 +3,12 @@
 // nothing. So it tells nothing of what is withheld (demands: Visitors). It promises nothing of how long it takes.
 // Stands on desk, reader and outputs, which it knows by their contracts.
 ghost use mathlib.Core.Path.{_≡_};
-ghost use Prim.Native.Nat.{_≤_};
-ghost use lib.ListN.{length};
 ghost use Rattle.scope.specs.Visitors.{Copied};
 ghost use Rattle.visitors.specs.Passing.{passedOf};
 use layout::Answer;
 
-// The field in front of an array, without an item of it that is there and withheld. The desk refuses nothing: the field is accepted, its list has every
-// place, and the array has room for every LEN.
+// The field in front of an array, without an item that is there and withheld. The desk refuses nothing: the field was accepted, the list has every place,
+// and the array has room for every LEN.
 fn passed(cat: u8, kept: [u8; 255], withheld: u8, item: u8) -> [u8; 255]
     ensures { λ r. ⌜ r ≡ passedOf cat kept withheld item ⌝ }
 {
