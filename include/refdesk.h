@@ -213,7 +213,8 @@ uint64_t ref_replace(uint8_t cat, const uint8_t *field, size_t field_len, uint8_
  * the front of the output; the rest of the output is as before. Bits of no item have no effect.
  * Two fields of one category whose items off the list are alike are answered alike and leave the same octets, whatever
  * stands in the items on the list. How long it takes may tell them apart.
- * Answers LEN of the copy. Refused, in this order: 1 to 9 for the field; 11 where the output is shorter than the copy.
+ * Answers LEN of the copy. Refused, in this order: 1 to 9 for the field, which may tell of items on the list too; 11 where
+ * the output is shorter than the copy.
  */
 uint64_t ref_copy(uint8_t cat, const uint8_t *field, size_t field_len, uint8_t withheld, uint8_t *out, size_t out_len);
 
