@@ -3,20 +3,20 @@ use mathlib.Core.Path.{_≡_, refl, sym, ap, ap₂, _∙_}
 use mathlib.Core.List.{List, [], _∷_, _++_}
 use Prim.Native.Nat.{ℕ, zero, suc, _+_, _-_, _≤_, _<_}
 use native.Mathlib.Omega.{arith}
-use lib.Dec.{T, leb, leb→le, le→leb}
+use lib.Dec.{T, leb, leb→le}
 use lib.ListN.{length, getD, take, drop, set, length-drop}
 use lib.Seq.{take-all, drop-cons, length-take-le}
 use Rattle.codec.specs.Codec.{Octets}
 use Rattle.codec.specs.Field.{flags, textsOf, flat, before}
 use Rattle.codec.specs.Meaning.{lenOf}
-use Rattle.codec.specs.Laws.Tests.{and-in, and-l, and-r}
+use Rattle.codec.specs.Laws.Tests.{and-l, and-r}
 use Rattle.codec.specs.Laws.Field.{length-texts}
 use Rattle.codec.specs.Laws.View.{before-most, front-flat}
 use Rattle.codec.specs.Laws.Change.{flat-set}
 use Rattle.papers.specs.Papers.{paperOf, itemsOf}
 use Rattle.scope.specs.Views.{isItem}
 use Rattle.scope.specs.Laws.Reading.{Read, read-front}
-use Rattle.scope.specs.Laws.Views.{field-is, part-is-text}
+use Rattle.scope.specs.Laws.Views.{field-is, nth-item, part-is-text}
 use Rattle.demands.specs.Terms.{numbered}
 use Rattle.demands.specs.Demands.{parts}
 use Rattle.demands.specs.Defined.{program}
@@ -36,7 +36,7 @@ module _ {cat : ℕ} {s : List ℕ} {n : ℕ} (o : Octets s) (r : Read cat s n) 
       let l : length ts ≡ itemsOf cat = many in
       let lt : i < length ts = omega arith in
       let z : suc i - 1 ≡ i = omega arith in
-      let t : T (isItem (paperOf cat) (suc i)) = and-in (leb 1 (suc i)) _ (le→leb 1 (suc i) (omega arith)) (le→leb (suc i) (itemsOf cat) (omega arith)) in
+      let t : T (isItem (paperOf cat) (suc i)) = nth-item (paperOf cat) i (omega arith) in
       ap₂ _++_ (part-is-text r (suc i) t o ∙ ap (λ x. getD ts x []) z) (parts-from k (suc i) (omega arith)) ∙ ap (λ x. flat (take (suc k) x)) (sym (drop-cons ts i [] lt))
 
   pub field-parts : take (lenOf s) s ≡ lenOf s ∷ r .what .0 ∷ parts program cat s 0 (itemsOf cat)

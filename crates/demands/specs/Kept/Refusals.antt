@@ -115,10 +115,14 @@ module _ (cat : ℕ) (s : List ℕ) (o : Octets s) (f : Record) (h : IsField cat
   unfolding recordOf
   items-are = ap (λ (g : Record). g .items) (h .record-is)
 
+  -- an item's bit by the record, and its flag by the contents
+  pub record-bit : (item : ℕ) → T (numbered cat item) → bitOf (f .items) item ≡ getD (flags (h .what .0)) (item - 1) 0
+  record-bit item t = ap (λ x. bitOf x item) items-are ∙ sym (item-bit cat (h .what .0) item indicator-small t)
+
   -- whether an item is there
   pub present-is : (item : ℕ) → T (numbered cat item) → present (h .what) item ≡ eqb (bitOf (f .items) item) 1
   unfolding present
-  present-is item t = ap (λ x. eqb x 1) (item-bit cat (h .what .0) item indicator-small t ∙ ap (λ x. bitOf x item) (sym items-are))
+  present-is item t = ap (λ x. eqb x 1) (sym (record-bit item t))
 
   pub absent-is : (item : ℕ) → T (numbered cat item) → bitOf (f .items) item ≢ 1 → present (h .what) item ≡ false
   absent-is item t x = present-is item t ∙ ne-eqb (bitOf (f .items) item) 1 x

@@ -5,29 +5,29 @@ use mathlib.Core.Bool.{Bool, true, false}
 use mathlib.Core.List.{List, [], _∷_, _++_}
 use Prim.Native.Nat.{ℕ, zero, suc, _+_, _-_, _≤_, _<_}
 use native.Mathlib.Omega.{arith}
-use lib.Dec.{T, leb, eqb, le→leb}
-use lib.ListN.{length, getD, take, drop}
-use lib.Seq.{take-append-seam, take-length}
+use lib.Dec.{T, eqb}
+use lib.ListN.{length, take}
+use lib.Seq.{take-length}
 use borrow.Author.Tests.{le-leb, lt-leb, eq-eqb, ne-eqb, eqb-false}
 use Rattle.codec.specs.Pick.{pick}
 use Rattle.codec.specs.Codec.{Octets}
-use Rattle.codec.specs.Field.{flags, body}
-use Rattle.codec.specs.Frame.{accepted, refused, readFrame, writeFrame}
+use Rattle.codec.specs.Field.{body}
+use Rattle.codec.specs.Frame.{refused, readFrame, writeFrame}
 use Rattle.codec.specs.Meaning.{lenOf}
-use Rattle.codec.specs.Laws.Tests.{and-in, holds}
+use Rattle.codec.specs.Laws.Tests.{holds}
 use Rattle.papers.specs.Papers.{known, paperOf, itemsOf}
 use Rattle.layout.specs.declared.Record.{Record}
 use Rattle.layout.specs.declared.Answer.the-variants.{Accepted}
 use Rattle.layout.specs.Answer.{viewNumber}
-use Rattle.layout.specs.Laws.Answer.{Refused≢Accepted}
 use Rattle.scope.specs.Reading.{fieldOf}
 use Rattle.scope.specs.Outputs.{withRoom, answerOf, after}
 use Rattle.scope.specs.Views.{isItem, viewOf, partOf}
 use Rattle.scope.specs.Desk.{listed}
 use Rattle.scope.specs.Alike.{Alike}
 use Rattle.scope.specs.Visitors.{copyOf}
+use Rattle.scope.specs.Laws.Outputs.{room-given}
 use Rattle.scope.specs.Laws.Reading.{Read}
-use Rattle.scope.specs.Laws.Views.{item-low, item-in, view-number}
+use Rattle.scope.specs.Laws.Views.{nth-item, item-in, item-next, view-number}
 use Rattle.scope.specs.Laws.Alike.{alike-held}
 use Rattle.scope.specs.Laws.Visitors.{leftOf, copyFrom, copy-is, copy-refused, copies-alike, alike-copies, left-flag, copy-octets, copy-reads, copy-alike, copy-absent, same-lists}
 use Rattle.demands.specs.Terms.{recordOf, IsField, numbered, bitOf}
@@ -35,7 +35,7 @@ use Rattle.demands.specs.Demands.{parts}
 use Rattle.demands.specs.Visitors.{partsOff, AlikeOff, Copy, Visitors}
 use Rattle.demands.specs.Defined.{handed, program}
 use Rattle.demands.specs.Kept.Fields.{Holds, field-holds, fault-refused}
-use Rattle.demands.specs.Kept.Refusals.{handed-refusal, item-bit, reading, indicator-small, items-are, present-is}
+use Rattle.demands.specs.Kept.Refusals.{handed-refusal, item-bit, reading, record-bit, present-is}
 use Rattle.demands.specs.Kept.Parts.{field-parts}
 
 -- ---- a list by its printed bits
@@ -52,10 +52,6 @@ module _ (cat list : ℕ) (h : list < 256) (item : ℕ) (t : T (numbered cat ite
   list-off e = eqb-false (bitOf list item) 1 (sym listed-bit ∙ e)
 
 -- ---- alike by the records and the parts, and by the views
-
--- an item's bit by the record, and its flag by the contents
-record-bit : (cat : ℕ) (s : List ℕ) (o : Octets s) (f : Record) (h : IsField cat s f) (item : ℕ) → T (numbered cat item) → bitOf (f .items) item ≡ getD (flags (h .what .0)) (item - 1) 0
-record-bit cat s o f h item t = ap (λ x. bitOf x item) (items-are cat s o f h) ∙ sym (item-bit cat (h .what .0) item (indicator-small cat s o f h) t)
 
 record-view : (cat : ℕ) (s : List ℕ) (o : Octets s) (f : Record) (h : IsField cat s f) (item : ℕ) → T (numbered cat item) → viewNumber (viewOf cat s item) ≡ pick (eqb (bitOf (f .items) item) 1) 0 15
 unfolding isItem
@@ -77,24 +73,13 @@ module _ (cat : ℕ) (s : List ℕ) (f : Record) (t : List ℕ) (g : Record) (os
   from-alike : Alike cat list s t → AlikeOff program cat list s f t g
   unfolding isItem
   from-alike a item i x =
-      let lo : 1 ≤ item = item-low r item i in
-      let z : suc (item - 1) ≡ item = omega arith in
       let e : listed list item ≡ false = off-list cat list lt item i x in
-      (record-bit cat s os f hs item i ∙ alike-held os ot r q list a (item - 1) (item-in r item i) (ap (listed list) z ∙ e) .0 ∙ sym (record-bit cat t ot g ht item i), a item i e .1)
+      (record-bit cat s os f hs item i ∙ alike-held os ot r q list a (item - 1) (item-in r item i) (ap (listed list) (item-next r item i) ∙ e) .0 ∙ sym (record-bit cat t ot g ht item i), a item i e .1)
 
   tells-nothing : AlikeOff program cat list s f t g → (room : ℕ) → copyOf cat s list room ≡ copyOf cat t list room
   tells-nothing a room = copy-is r list room ∙ ap (withRoom room) (copies-alike os ot r q list (to-alike a)) ∙ sym (copy-is q list room)
 
 -- ---- the copy of a field
-
--- what has room stands in front
-room-given : (b out : List ℕ) (n : ℕ) → answerOf (withRoom (length out) b) ≡ Accepted n → take n (after (withRoom (length out) b) out) ≡ b
-unfolding withRoom answerOf after
-room-given b out n e = go (leb (length b) (length out)) e
-  where
-    go : (x : Bool) → answerOf (pick x (accepted b) (refused 11 0)) ≡ Accepted n → take n (after (pick x (accepted b) (refused 11 0)) out) ≡ b
-    go true h = let l : length b ≡ n = cc in ap (λ m. take m (b ++ drop (length b) out)) (sym l) ∙ take-append-seam b (drop (length b) out)
-    go false h = Refused≢Accepted h
 
 copy-front : {cat : ℕ} {s : List ℕ} {m : ℕ} (r : Read cat s m) (list : ℕ) (out : List ℕ) (n : ℕ) → answerOf (copyOf cat s list (length out)) ≡ Accepted n
     → take n (after (copyOf cat s list (length out)) out) ≡ copyFrom r list
@@ -135,7 +120,7 @@ module _ (cat : ℕ) (s : List ℕ) (f : Record) (os : Octets s) (hs : IsField c
   parts-off (suc n) i h = ap₂ _++_ (go (eqb (bitOf list (suc i)) 1) refl) (parts-off n (suc i) (omega arith))
     where
       here : T (numbered cat (suc i))
-      here = and-in (leb 1 (suc i)) _ (le→leb 1 (suc i) (omega arith)) (le→leb (suc i) (itemsOf cat) (omega arith))
+      here = nth-item (paperOf cat) i (omega arith)
 
       go : (b : Bool) → eqb (bitOf list (suc i)) 1 ≡ b → partOf octets (viewOf cat octets (suc i)) ≡ pick b [] (partOf s (viewOf cat s (suc i)))
       go true e = ap (partOf octets) (copy-absent os from list (suc i) here (listed-bit cat list lt (suc i) here ∙ e))

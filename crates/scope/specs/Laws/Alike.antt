@@ -5,20 +5,19 @@ use mathlib.Core.List.{List, []}
 use Prim.Native.Nat.{ℕ, suc, _-_, _<_}
 use native.Mathlib.Omega.{arith}
 use borrow.Author.Tests.{eqb-true}
-use lib.Dec.{T, leb, eqb, le→leb}
+use lib.Dec.{T, eqb}
 use lib.ListN.{length, getD}
 use Rattle.codec.specs.Pick.{pick}
 use Rattle.codec.specs.Codec.{Octets}
 use Rattle.codec.specs.Item.{Item}
 use Rattle.codec.specs.Field.{flags, Contents, textsOf}
-use Rattle.codec.specs.Laws.Tests.{and-in}
 use Rattle.codec.specs.Laws.Field.{indicator-lt, flag-zero}
-use Rattle.papers.specs.Papers.{paperOf, itemsOf}
+use Rattle.papers.specs.Papers.{paperOf}
 use Rattle.scope.specs.Views.{isItem, present}
 use Rattle.scope.specs.Desk.{listed}
-use Rattle.scope.specs.Alike.{AlikeIn, Alike}
+use Rattle.scope.specs.Alike.{Alike}
 use Rattle.scope.specs.Laws.Reading.{Read, read-okay}
-use Rattle.scope.specs.Laws.Views.{item-low, item-in, view-number, part-is-text}
+use Rattle.scope.specs.Laws.Views.{nth-item, item-in, item-next, view-number, part-is-text}
 
 -- contents that are alike in flag and text, wherever the list has no item
 abbrev pub HeldAlike : List Item → ℕ → Contents → Contents → Type 0
@@ -42,9 +41,9 @@ same-number false false e = refl
 module _ {cat : ℕ} {s t : List ℕ} {n m : ℕ} (os : Octets s) (ot : Octets t) (r : Read cat s n) (q : Read cat t m) (list : ℕ) where
   -- by what is viewed and by what is held
   pub alike-held : Alike cat list s t → HeldAlike (paperOf cat) list (r .what) (q .what)
-  unfolding isItem present
+  unfolding present
   alike-held a j h e =
-      let i : T (isItem (paperOf cat) (suc j)) = and-in (leb 1 (suc j)) _ (le→leb 1 (suc j) (omega arith)) (le→leb (suc j) (itemsOf cat) (omega arith)) in
+      let i : T (isItem (paperOf cat) (suc j)) = nth-item (paperOf cat) j h in
       let z : suc j - 1 ≡ j = omega arith in
       let b = same-number (present (r .what) (suc j)) (present (q .what) (suc j)) (sym (view-number r (suc j) i) ∙ a (suc j) i e .0 ∙ view-number q (suc j) i) in
       let c = sym (part-is-text r (suc j) i os) ∙ a (suc j) i e .1 ∙ part-is-text q (suc j) i ot in (
@@ -55,9 +54,6 @@ module _ {cat : ℕ} {s t : List ℕ} {n m : ℕ} (os : Octets s) (ot : Octets t
 
   pub held-alike : HeldAlike (paperOf cat) list (r .what) (q .what) → Alike cat list s t
   unfolding present
-  held-alike a item i e = at (omega (arith, item-low r item i))
-    where
-      at : suc (item - 1) ≡ item → AlikeIn cat s t item
-      at z =
-          let b = a (item - 1) (item-in r item i) (ap (listed list) z ∙ e) in
-          (view-number r item i ∙ ap (λ x. pick (eqb x 1) 0 15) (b .0) ∙ sym (view-number q item i), part-is-text r item i os ∙ b .1 ∙ sym (part-is-text q item i ot))
+  held-alike a item i e =
+      let b = a (item - 1) (item-in r item i) (ap (listed list) (item-next r item i) ∙ e) in
+      (view-number r item i ∙ ap (λ x. pick (eqb x 1) 0 15) (b .0) ∙ sym (view-number q item i), part-is-text r item i os ∙ b .1 ∙ sym (part-is-text q item i ot))

@@ -62,16 +62,25 @@ Hidden≢Shown {ℓ} : {X : Type ℓ} {e p a m : ℕ} → Hidden e p ≡ Shown a
 unfolding IsShown
 Hidden≢Shown h = absurd (subst IsShown (sym h) tt)
 
+-- ---- items and their indices: items are counted from 1
+
+pub nth-item : (its : List Item) (i : ℕ) → i < length its → T (isItem its (suc i))
+unfolding isItem
+nth-item its i h = and-in (leb 1 (suc i)) _ (le→leb 1 (suc i) (omega arith)) (le→leb (suc i) (length its) (omega arith))
+
 -- ---- the part that a view names, of an item that is there or not
 
 module _ {cat : ℕ} {s : List ℕ} {n : ℕ} (r : Read cat s n) (item : ℕ) (h : T (isItem (paperOf cat) item)) where
-  pub item-low : 1 ≤ item
+  item-low : 1 ≤ item
   unfolding isItem
   item-low = leb→le 1 item (and-l (leb 1 item) _ h)
 
   pub item-in : item - 1 < itemsOf cat
   unfolding isItem
   item-in = let a : 1 ≤ item = item-low in let b : item ≤ itemsOf cat = leb→le item (itemsOf cat) (and-r (leb 1 item) _ h) in omega arith
+
+  pub item-next : suc (item - 1) ≡ item
+  item-next = let a : 1 ≤ item = item-low in omega arith
 
   viewed : {b : Bool} → present (r .what) item ≡ b → viewOf cat s item ≡ pick b (standing (paperOf cat) (r .what) item) (Hidden 15 0)
   unfolding viewOf viewIn fieldOf
@@ -175,7 +184,7 @@ module _ {cat : ℕ} {s : List ℕ} {n : ℕ} (o : Octets s) (r : Read cat s n) 
       let ts : List (List ℕ) = textsOf (paperOf cat) (r .what) in
       let h : i < length ts = rw (length-texts (flags (r .what .0)) (paperOf cat) (r .what .1)) (omega arith) in
       let z : suc i - 1 ≡ i = omega arith in
-      let t : T (isItem (paperOf cat) (suc i)) = and-in (leb 1 (suc i)) _ (le→leb 1 (suc i) (omega arith)) (le→leb (suc i) (itemsOf cat) (omega arith)) in
+      let t : T (isItem (paperOf cat) (suc i)) = nth-item (paperOf cat) i (omega arith) in
       ap₂ _∷_ (part-is-text r (suc i) t o ∙ ap (λ x. getD ts x []) z) (parts-drop k (suc i) (omega arith)) ∙ sym (drop-cons ts i [] h)
 
   pub views-cover : flat (partsFrom cat s 0 (itemsOf cat)) ≡ drop 2 (take (lenOf s) s)

@@ -2,17 +2,16 @@
 use mathlib.Core.Path.{_≡_, refl, sym, ap, _∙_, subst}
 use mathlib.Core.Bool.{true, false}
 use mathlib.Core.List.{List, [], append-nil}
-use Prim.Native.Nat.{ℕ, suc, _-_, _≤_, _<_}
+use Prim.Native.Nat.{ℕ, suc, _-_}
 use native.Mathlib.Nat.{le-trans}
 use native.Mathlib.Omega.{arith}
-use lib.Dec.{T, leb, eqb, le→leb}
+use lib.Dec.{T, eqb}
 use lib.ListN.{getD}
 use Rattle.codec.specs.Pick.{pick}
 use Rattle.codec.specs.Codec.{Octets}
 use Rattle.codec.specs.Field.{flags, Contents, body, textsOf}
 use Rattle.codec.specs.Frame.{Outcome, accepted, refused, readFrame, writeFrame}
 use Rattle.codec.specs.Meaning.{lenOf}
-use Rattle.codec.specs.Laws.Tests.{and-in}
 use Rattle.papers.specs.Papers.{paperOf, itemsOf}
 use Rattle.papers.specs.Laws.Papers.{good-paper, few-items, few-octets}
 use Rattle.layout.specs.declared.View.the-variants.{Hidden}
@@ -23,7 +22,7 @@ use Rattle.scope.specs.Desk.{listed}
 use Rattle.scope.specs.Alike.{Alike}
 use Rattle.scope.specs.Visitors.{without, copyIn, copyOf}
 use Rattle.scope.specs.Laws.Reading.{Read, read-made, read-okay, afresh-read, afresh-octets}
-use Rattle.scope.specs.Laws.Views.{item-low, item-in, view-absent}
+use Rattle.scope.specs.Laws.Views.{nth-item, item-in, item-next, view-absent}
 use Rattle.scope.specs.Laws.Alike.{alike-held, held-alike}
 use Rattle.scope.specs.Laws.Without.{hidden, hidden-under, Without, all-left, same-without, same-copy, copy-same}
 
@@ -36,7 +35,7 @@ leftOf {cat} r withheld = without (paperOf cat) withheld (itemsOf cat) (r .what)
 abbrev pub copyFrom : {cat : ℕ} {s : List ℕ} {n : ℕ} → Read cat s n → ℕ → List ℕ
 copyFrom {cat} r withheld = writeFrame (body (paperOf cat)) (leftOf r withheld)
 
--- "Room is asked of the copy": of nothing else
+-- room is asked of the copy, and of nothing else
 pub copy-is : {cat : ℕ} {s : List ℕ} {n : ℕ} (r : Read cat s n) (withheld room : ℕ) → copyOf cat s withheld room ≡ withRoom room (copyFrom r withheld)
 unfolding copyOf copyIn fieldOf
 copy-is r withheld room = rw (r .known-is, r .body-is) refl
@@ -65,9 +64,7 @@ module _ {cat : ℕ} {s : List ℕ} {n : ℕ} (os : Octets s) (r : Read cat s n)
   -- an item on the list has no flag
   pub left-flag : (item : ℕ) → T (isItem (paperOf cat) item) → listed withheld item ≡ true → getD (flags (leftOf r withheld .0)) (item - 1) 0 ≡ 0
   left-flag item i e =
-      let lo : 1 ≤ item = item-low r item i in
-      let z : suc (item - 1) ≡ item = omega arith in
-      let u : hidden withheld (itemsOf cat) (item - 1) ≡ true = hidden-under withheld (itemsOf cat) (item - 1) (item-in r item i) ∙ ap (listed withheld) z ∙ e in
+      let u : hidden withheld (itemsOf cat) (item - 1) ≡ true = hidden-under withheld (itemsOf cat) (item - 1) (item-in r item i) ∙ ap (listed withheld) (item-next r item i) ∙ e in
       left .flags-left .at (item - 1) ∙ ap (λ b. pick b 0 (getD (flags (r .what .0)) (item - 1) 0)) u
 
   pub copy-octets : Octets (copyFrom r withheld)
@@ -98,12 +95,9 @@ module _ {cat : ℕ} {s : List ℕ} {n : ℕ} (os : Octets s) (r : Read cat s n)
 -- ---- "Spare places in the list have no effect": only those of the category's items are looked at
 
 pub same-lists : (cat : ℕ) (s : List ℕ) (list other room : ℕ) → ((item : ℕ) → T (isItem (paperOf cat) item) → listed list item ≡ listed other item) → copyOf cat s list room ≡ copyOf cat s other room
-unfolding copyOf copyIn isItem
+unfolding copyOf copyIn
 same-lists cat s list other room h = go (fieldOf cat s)
   where
-    at : (j : ℕ) → j < itemsOf cat → listed list (suc j) ≡ listed other (suc j)
-    at j k = h (suc j) (and-in (leb 1 (suc j)) _ (le→leb 1 (suc j) (omega arith)) (le→leb (suc j) (itemsOf cat) (omega arith)))
-
     go : (o : Outcome Contents) → copyIn (paperOf cat) list room o ≡ copyIn (paperOf cat) other room o
     go (refused n p) = refl
-    go (accepted r) = ap (λ q. withRoom room (writeFrame (body (paperOf cat)) q)) (same-without (paperOf cat) list other (itemsOf cat) r at)
+    go (accepted r) = ap (λ q. withRoom room (writeFrame (body (paperOf cat)) q)) (same-without (paperOf cat) list other (itemsOf cat) r (λ j k. h (suc j) (nth-item (paperOf cat) j k)))
