@@ -13,7 +13,7 @@ use Rattle.codec.specs.Codec.{Octets, Codec, opt, number}
 use Rattle.codec.specs.Line.{Line, Held, count, widths, fitNums, clear, unnums, cells, line}
 use Rattle.codec.specs.Item.{Item, chained, single, nothing, slots, slotsOf, beside, fxOf, chain, item}
 use Rattle.codec.specs.Field.{flags, isNil, isCons, uncons, firstFlag, nextFlags, place, row, indicator, Contents, body}
-use Rattle.codec.specs.Frame.{accepted, okayFrame}
+use Rattle.codec.specs.Frame.{accepted}
 use Rattle.codec.specs.Laws.Tests.{and-l, and-r, and-in}
 use Rattle.codec.specs.Laws.Codec.{octets-++}
 use Rattle.codec.specs.Laws.Field.{row-okay}
@@ -29,7 +29,7 @@ use Rattle.layout.specs.Laws.Record.{length-parts, length-numbers}
 use Rattle.scope.specs.Reading.{readOf}
 use Rattle.scope.specs.Writing.{writeOf, Wrote}
 use Rattle.scope.specs.Outputs.{answerOf, after}
-use Rattle.scope.specs.Laws.Reading.{read-found, read-front}
+use Rattle.scope.specs.Laws.Reading.{read-found, read-okay}
 use Rattle.demands.specs.RoundTrips.{written-reads, read-writes}
 use Rattle.interface.specs.Packed.{answerWord, Hands}
 use Rattle.interface.specs.Arrays.{PLACES, arrayOf, fillAnswer, filledBy, ofArray, writeArray, Fills}
@@ -102,12 +102,12 @@ zeros-octets (suc n) = zeros-octets n
 
 module _ (cat : ℕ) (small : cat < 256) (s : List ℕ) (o : Octets s) {n : ℕ} (e : readOf cat s .answer ≡ Accepted n) where
   read-sized : Sized (readOf cat s .kept)
-  unfolding flatten okayFrame indicator number body total
+  unfolding flatten indicator number body total
   read-sized =
       let r = read-found cat s n e in
       let its : List Item = paperOf cat in
       let x : Contents = r .what in
-      let b : T ((body its) .okay x) = and-l ((body its) .okay x) _ ((read-front o r) .okay) in
+      let b : T ((body its) .okay x) = read-okay o r in
       let k : T ((row (flags (x .0)) its) .okay (x .1)) = row-okay its x b in
       let i : T (ltb (x .0) 256) = and-l (ltb (x .0) 256) _ (and-l ((number 1) .okay (x .0)) _ (and-l ((indicator its) .okay (x .0)) _ b)) in
       let lp : length (allParts (x .1)) ≡ length its = length-parts (flags (x .0)) its (x .1) k in

@@ -15,7 +15,7 @@ use Rattle.codec.specs.Pick.{pick}
 use Rattle.codec.specs.Radix.{join, ones}
 use Rattle.codec.specs.Codec.{Octets}
 use Rattle.codec.specs.Field.{flags, Contents, body, goodItems, longest, flat}
-use Rattle.codec.specs.Frame.{accepted, refused, readFrame, writeFrame, okayFrame}
+use Rattle.codec.specs.Frame.{accepted, refused, readFrame, writeFrame}
 use Rattle.codec.specs.Meaning.{lenOf, zerosIn, HasLayout}
 use Rattle.codec.specs.Change.{Change, remove, put, setFlag, setItem, alone, change}
 use Rattle.codec.specs.Printed.{Entry, right}
@@ -38,7 +38,7 @@ use Rattle.scope.specs.Writing.{writable, written, writeOf}
 use Rattle.scope.specs.Outputs.{withRoom, answerOf, after}
 use Rattle.scope.specs.Views.{isItem}
 use Rattle.scope.specs.Desk.{listed, afresh, editIn, editOf, Edited}
-use Rattle.scope.specs.Laws.Reading.{Read, read-made, read-front, read-then-write}
+use Rattle.scope.specs.Laws.Reading.{Read, read-made, read-okay, read-then-write}
 use Rattle.scope.specs.Laws.Edits.{Edit, edit-splice, edit-read, edited-octets, edit-afresh}
 use Rattle.scope.specs.Laws.Views.{field-is}
 use Rattle.demands.specs.Edited.{edit-done, others-kept}
@@ -111,8 +111,8 @@ module _ (cat : ℕ) (s : List ℕ) (list item : ℕ) (ch : Change) (os : Octets
   reading = read-made cat s was (holds (known cat) (t .known-is)) read-was
 
   was-lt : was .0 < 256
-  unfolding okayFrame reading
-  was-lt = indicator-lt (paperOf cat) was (and-l ((body (paperOf cat)) .okay was) _ ((read-front os reading) .okay))
+  unfolding reading
+  was-lt = indicator-lt (paperOf cat) was (read-okay os reading)
 
   now-is : setItem (item - 1) (t .bit) (t .value) was ≡ now
   unfolding setItem
@@ -196,13 +196,13 @@ module _ (cat : ℕ) (s : List ℕ) (list item : ℕ) (ch : Change) (os : Octets
 -- the edited field
 pub edit-turns : {cat : ℕ} {s : List ℕ} {list item : ℕ} {ch : Change} {room : ℕ} {b : List ℕ} (os : Octets s) (on : Octets (newOctets ch)) (d : Edit cat s list item ch room b)
     → b ≡ length b ∷ withBit (d .read .what .0) item (newFlag ch) ∷ (parts program cat s 0 (item - 1) ++ (newOctets ch ++ parts program cat s item (itemsOf cat - item)))
-unfolding writeFrame setFlag okayFrame isItem
+unfolding writeFrame setFlag isItem
 edit-turns {cat} {s} {list} {item} {ch} {room} {b} os on d =
     let lo : 1 ≤ item = leb→le 1 item (and-l (leb 1 item) _ (d .is-item)) in
     let hi : item ≤ itemsOf cat = leb→le item (itemsOf cat) (and-r (leb 1 item) _ (d .is-item)) in
     let few : itemsOf cat ≤ 8 = few-items cat in
     let sp = edit-splice os on d in
-    let h : d .read .what .0 < 256 = indicator-lt (paperOf cat) (d .read .what) (and-l ((body (paperOf cat)) .okay (d .read .what)) _ ((read-front os (d .read)) .okay)) in
+    let h : d .read .what .0 < 256 = indicator-lt (paperOf cat) (d .read .what) (read-okay os (d .read)) in
     let e : d .new .0 ≡ withBit (d .read .what .0) item (newFlag ch)
     = sym (flags-join (d .new .0) (indicator-lt (paperOf cat) (d .new) (sp .okay))) ∙ ap (join ones) (sp .flags-are) ∙ bit-with (d .read .what .0) item (newFlag ch) h lo (omega arith) (flag-lt ch) in
     let len : suc (length ((body (paperOf cat)) .write (d .new))) ≡ length b = ap length (sym (d .octets-are)) in

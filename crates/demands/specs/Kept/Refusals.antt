@@ -11,7 +11,7 @@ use borrow.Author.Tests.{lt-leb, ne-eqb}
 use Rattle.codec.specs.Pick.{pick}
 use Rattle.codec.specs.Codec.{Octets}
 use Rattle.codec.specs.Field.{flags, Contents, body}
-use Rattle.codec.specs.Frame.{Outcome, accepted, refused, readFrame, okayFrame}
+use Rattle.codec.specs.Frame.{Outcome, accepted, refused, readFrame}
 use Rattle.codec.specs.Meaning.{lenOf}
 use Rattle.codec.specs.Change.{Change, put, setFlag, alone, putIn, change}
 use Rattle.codec.specs.Laws.Tests.{and-in, and-l, and-r, holds, fails}
@@ -32,7 +32,7 @@ use Rattle.scope.specs.Writing.{writable, written, writeOf}
 use Rattle.scope.specs.Views.{isItem, present, viewIn, viewOf, partOf, chooseIn, chooseOf, chosenOf}
 use Rattle.scope.specs.Desk.{listed, afresh, editIn, editOf}
 use Rattle.scope.specs.Sheet.{sheetOf}
-use Rattle.scope.specs.Laws.Reading.{Read, read-made, read-front}
+use Rattle.scope.specs.Laws.Reading.{Read, read-made, read-front, read-okay}
 use Rattle.scope.specs.Laws.Refusals.{place-within}
 use Rattle.scope.specs.Laws.Views.{front-length}
 use Rattle.demands.specs.Terms.{recordOf, IsField, Fault, numbered, bitOf, refusedBy}
@@ -108,8 +108,7 @@ module _ (cat : ℕ) (s : List ℕ) (o : Octets s) (f : Record) (h : IsField cat
   reading = read-made cat s (h .what) (holds (known cat) (h .known-is)) body-was
 
   pub indicator-small : h .what .0 < 256
-  unfolding okayFrame
-  indicator-small = indicator-lt (paperOf cat) (h .what) (and-l ((body (paperOf cat)) .okay (h .what)) _ ((read-front o reading) .okay))
+  indicator-small = indicator-lt (paperOf cat) (h .what) (read-okay o reading)
 
   pub items-are : f .items ≡ h .what .0
   unfolding recordOf

@@ -10,7 +10,7 @@ use lib.ListN.{length, getD, take, replicate, length-take}
 use Rattle.codec.specs.Pick.{pick}
 use Rattle.codec.specs.Codec.{Octets}
 use Rattle.codec.specs.Field.{flags, Contents, body, textsOf, flat, before}
-use Rattle.codec.specs.Frame.{Outcome, accepted, refused, readFrame, writeFrame, okayFrame}
+use Rattle.codec.specs.Frame.{Outcome, accepted, refused, readFrame, writeFrame}
 use Rattle.codec.specs.Meaning.{lenOf}
 use Rattle.codec.specs.Change.{Change, remove, put, setFlag, setItem, blankAt, alone, putIn, change}
 use Rattle.codec.specs.Laws.Tests.{and-l}
@@ -28,7 +28,7 @@ use Rattle.scope.specs.Outputs.{withRoom, Leaves}
 use Rattle.scope.specs.Views.{isItem}
 use Rattle.scope.specs.Desk.{listed, afresh, editIn, editOf, Edited}
 use Rattle.layout.specs.Laws.Answer.{Refused≢Accepted, Accepted≢Refused}
-use Rattle.scope.specs.Laws.Reading.{Read, read-made, read-front}
+use Rattle.scope.specs.Laws.Reading.{Read, read-made, read-front, read-okay}
 use Rattle.scope.specs.Laws.Views.{field-is, front-length, item-in}
 use Rattle.layout.specs.declared.Surveyed.{Surveyed}
 use Rattle.scope.specs.Survey.{startsFrom, surveyed, surveyOf}
@@ -185,8 +185,7 @@ module _ (cat : ℕ) (s : List ℕ) {v : Surveyed} (ev : v ≡ surveyOf cat s) {
       front = read-front os (found .read)
 
       splice : Splice (paperOf cat) (item - 1) (newFlag ch) (newOctets ch) r q
-      unfolding okayFrame
-      splice = spliced (paperOf cat) (few-items cat) (item - 1) item-there (good-paper cat) ch on r q (and-l ((body (paperOf cat)) .okay r) _ (front .okay)) ec
+      splice = spliced (paperOf cat) (few-items cat) (item - 1) item-there (good-paper cat) ch on r q (read-okay os (found .read)) ec
 
       from-is : getD (v .starts) (item - 1) 0 ≡ 2 + before (textsOf (paperOf cat) r) (item - 1)
       from-is = ap (λ x. getD x (item - 1) 0) (found .starts-are) ∙ begins cat r (replicate (8 - itemsOf cat) 0) (item - 1) item-there

@@ -95,6 +95,10 @@ pick-fits : (b : Bool) (o q : Outcome (List ℕ)) → (b ≡ true → FitOutcome
 pick-fits true o q f g = f refl
 pick-fits false o q f g = g
 
+room-fits : (room : ℕ) (b : List ℕ) → length b < 256 → FitOutcome (withRoom room b)
+unfolding withRoom FitOutcome
+room-fits room b h = pick-fits (leb (length b) room) (accepted b) (refused 11 0) (λ _. h) (omega arith)
+
 written-short : (f : Record) → writable f ≡ true → length (written f) < 256
 unfolding writable written okayFrame writeFrame
 written-short f e =
@@ -104,11 +108,10 @@ written-short f e =
     omega arith
 
 write-outcome : (f : Record) (room : ℕ) → FitOutcome (writeOf f room)
-unfolding writeOf withRoom FitOutcome
+unfolding writeOf FitOutcome
 write-outcome f room =
     pick-fits (known (f .cat)) (pick (writable f) (withRoom room (written f)) (refused 10 0)) (refused 1 0)
-    (λ _. pick-fits (writable f) (withRoom room (written f)) (refused 10 0)
-    (λ e. pick-fits (leb (length (written f)) room) (accepted (written f)) (refused 11 0) (λ _. written-short f e) (omega arith)) (omega arith)) (omega arith)
+    (λ _. pick-fits (writable f) (withRoom room (written f)) (refused 10 0) (λ e. room-fits room (written f) (written-short f e)) (omega arith)) (omega arith)
 
 pub write-fits : (a : List ℤ) (room : ℕ) → FitAnswer (answerOf (writeArray a room))
 unfolding writeArray FitOutcome
@@ -230,10 +233,6 @@ edit-fits cat s list item ch room os on = outcome-fits (editOf cat s list item c
         omega arith
 
 -- ---- copies
-
-room-fits : (room : ℕ) (b : List ℕ) → length b < 256 → FitOutcome (withRoom room b)
-unfolding withRoom FitOutcome
-room-fits room b h = pick-fits (leb (length b) room) (accepted b) (refused 11 0) (λ _. h) (omega arith)
 
 pub copy-fits : (cat : ℕ) (s : List ℕ) (withheld room : ℕ) → Octets s → FitAnswer (answerOf (copyOf cat s withheld room))
 unfolding FitOutcome copyOf copyIn

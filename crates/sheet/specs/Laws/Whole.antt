@@ -12,9 +12,8 @@ use lib.Seq.{take-all}
 use Rattle.codec.specs.Pick.{pick}
 use Rattle.codec.specs.Codec.{Octets}
 use Rattle.codec.specs.Field.{flags, Contents, body}
-use Rattle.codec.specs.Frame.{Outcome, accepted, refused, okayFrame}
+use Rattle.codec.specs.Frame.{Outcome, accepted, refused}
 use Rattle.codec.specs.Meaning.{lenOf}
-use Rattle.codec.specs.Laws.Tests.{and-l}
 use Rattle.codec.specs.Laws.Field.{row-okay}
 use Rattle.papers.specs.Cat048.{cat048}
 use Rattle.papers.specs.Cat021.{cat021}
@@ -30,7 +29,7 @@ use Rattle.layout.specs.Laws.Record.{unflatten-flatten, length-numbers}
 use Rattle.scope.specs.Reading.{fieldOf, shown, readOf}
 use Rattle.scope.specs.Sheet.{decimal, keyLine, rowText, itemsText, refusalText, fieldText, sheetOf}
 use Rattle.layout.specs.Laws.Answer.{Accepted≢Refused}
-use Rattle.scope.specs.Laws.Reading.{Read, read-found, read-front}
+use Rattle.scope.specs.Laws.Reading.{Read, read-found, read-okay}
 use Rattle.spots.specs.Spots.{spotAt, spots, spotsFrom, spotOf, itemsFrom, heldFrom}
 use Rattle.spots.specs.Laws.Spots.{spots-right}
 use Rattle.text.specs.Typing.{Types}
@@ -98,8 +97,7 @@ module _ (cat : ℕ) (s : List ℕ) (o : Octets s) {r : Reading} (er : r ≡ rea
     kept-is = ap (λ (x : Reading). x .kept) er ∙ found .kept-is
 
     okay : T ((body (paperOf cat)) .okay (found .what))
-    unfolding okayFrame
-    okay = and-l ((body (paperOf cat)) .okay (found .what)) _ ((read-front o found) .okay)
+    okay = read-okay o found
 
     field-is : fieldOf cat s ≡ accepted (found .what)
     unfolding fieldOf
