@@ -21,7 +21,7 @@ SECONDS = ROOT / "target" / "crate-seconds.json"
 PROMISES = [
     ("codec", "the definitions of the format: laws of codecs, chains, frames and edits"),
     ("leaves", "`wide`, `wide64`, `octet`, `octet64`, `less`, `less64`, `front`"),
-    ("flags", "`present`, `with_item`, `without_item`, `is_one`"),
+    ("flags", "`index`, `present`, `with_item`, `without_item`, `is_one`"),
     ("papers", "the papers as data: whole, alike where two papers are, and reading the specimens"),
     ("layout", "`is_known`, `items_of`, `longest_of`, `is_item`, `number_at`, `which_number`"),
     ("scope", "01's operations and the visitors' copy as definitions: the edge octets and sheets computed from them"),

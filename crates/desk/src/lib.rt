@@ -14,19 +14,12 @@ ghost use Rattle.desk.specs.Edits.{allowedOf, Exchangeable, exchangeOf};
 use layout::Answer;
 use layout::Surveyed;
 
-// The index of an item; items are counted from 1.
-fn index(item: u8) -> usize
-    ensures { λ r. ⌜ r ≡ item - 1 ⌝ }
-{
-    leaves::less(leaves::wide(item), 1)
-}
-
 // 12 for no item of the category, 13 for one off the slot's list, else 0.
 fn asked(cat: u8, list: u8, item: u8) -> u8
     ensures { λ r. ⌜ r ≡ askedOf cat list item ⌝ }
 {
     if layout::is_item(cat, item) {
-        if flags::present(list, index(item)) {
+        if flags::present(list, flags::index(item)) {
             return 0;
         }
         return 13;
@@ -136,7 +129,7 @@ pub fn remove(cat: u8, field: &[u8], list: u8, item: u8, out: &mut [u8]) -> Answ
         return a;
     };
     let starts = found.starts;
-    let items = flags::without_item(found.items, index(item));
+    let items = flags::without_item(found.items, flags::index(item));
     exchanged(field, len, starts, item, items, &field[..0], &mut *out)
 }
 
@@ -149,7 +142,7 @@ pub fn replace(cat: u8, field: &[u8], list: u8, item: u8, new: &[u8], out: &mut 
     let Answer::Accepted(len) = a else {
         return a;
     };
-    let i = index(item);
+    let i = flags::index(item);
     if right(cat, i, new) {
         let starts = found.starts;
         let items = flags::with_item(found.items, i);

@@ -1,12 +1,19 @@
 // What says that something is there: for an item its bit in the indicator, for a subfield a number of the chain.
-// Promises: each is one equation, for every indicator, index and number. Stands on codec's definitions and on no code.
+// Promises: each is one equation, for every indicator, item, index and number. Stands on codec's definitions and on leaves.
 ghost use mathlib.Core.Path.{_≡_};
-ghost use Prim.Native.Nat.{_^_, _/_, _<_};
+ghost use Prim.Native.Nat.{_-_, _^_, _/_, _<_};
 ghost use lib.Dec.{eqb};
 ghost use lib.ListN.{getD};
 ghost use Rattle.codec.specs.Item.{isOne};
 ghost use Rattle.codec.specs.Field.{flags};
 ghost use Rattle.codec.specs.Change.{setFlag};
+
+// The index of an item; items are counted from 1.
+pub fn index(item: u8) -> usize
+    ensures { λ r. ⌜ r ≡ item - 1 ⌝ }
+{
+    leaves::less(leaves::wide(item), 1)
+}
 
 // Whether an indicator has the item with index i, the first item's bit being the highest.
 pub fn present(items: u8, i: usize) -> bool

@@ -12,7 +12,7 @@ use layout::Answer;
 fn passed(cat: u8, kept: [u8; 255], withheld: u8, item: u8) -> [u8; 255]
     ensures { λ r. ⌜ r ≡ passedOf cat kept withheld item ⌝ }
 {
-    let i = leaves::less(leaves::wide(item), 1);
+    let i = flags::index(item);
     if flags::present(withheld, i) {
         if flags::present(kept[1], i) {
             let mut next = kept;
