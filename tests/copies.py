@@ -52,8 +52,8 @@ def some_present(cat):
 
 def spare_set(cat):
     """The spare places of the list, alone and together, beside some list and beside none."""
-    spare = [place for place in range(spare_places(cat) + 1)]
-    yield from ((cat, field_of(few(cat)), listed | place) for listed in (0, bit_of(1), bit_of(0) | bit_of(4)) for place in spare)
+    lists = itertools.product((0, bit_of(1), bit_of(0) | bit_of(4)), range(spare_places(cat) + 1))
+    yield from ((cat, field_of(few(cat)), listed | place) for listed, place in lists)
 
 
 def behind_len(cat):

@@ -85,7 +85,7 @@ def changed(old, new):
     while end < min(len(a), len(b)) - start and a[-1 - end] == b[-1 - end]:
         end += 1
     first = max(0, start - 1)
-    cut = lambda words: " ".join(words[first : len(words) - end + (1 if end else 0)])[:90]
+    cut = lambda words: " ".join(words[first : len(words) - end + (1 if end else 0)])[:60]
     return f"{code(cut(a))} → {code(cut(b))}"
 
 
@@ -239,7 +239,7 @@ def section(crate, promise, edits):
     print("| edit | changed | the fact | refused in |\n|---|---|---|---|")
     for edit in edits:
         why, pairs = parts(edit)
-        what = "; ".join(changed(*pair) for pair in pairs)
+        what = "; ".join(changed(old, new) for old, new in pairs if not old.startswith("use "))
         print(f"| `{edit.stem}` | {what} | {why} | {refused_in(crate, edit.stem)} |")
     functions = wrong_programs(crate, edits)
     if functions:
