@@ -37,11 +37,11 @@ use Rattle.scope.specs.Reading.{fieldOf, readOf}
 use Rattle.scope.specs.Writing.{writable, written, writeOf}
 use Rattle.scope.specs.Outputs.{withRoom, answerOf, after}
 use Rattle.scope.specs.Views.{isItem}
-use Rattle.scope.specs.Desk.{listed, afresh, editIn, editOf, Edited}
+use Rattle.scope.specs.Desk.{listed, editOf, Edited}
 use Rattle.scope.specs.Laws.Reading.{Read, read-made, read-okay, read-then-write}
 use Rattle.scope.specs.Laws.Edits.{Edit, edit-splice, edit-read, edited-octets, edit-afresh}
 use Rattle.scope.specs.Laws.Views.{field-is}
-use Rattle.demands.specs.Edited.{edit-done, others-kept}
+use Rattle.demands.specs.Edited.{edit-gives, edit-done, others-kept}
 use Rattle.demands.specs.Kept.Fields.{holds-field, field-holds, flatten-is}
 use Rattle.demands.specs.Kept.Refusals.{alone-octets}
 use Rattle.demands.specs.Kept.Parts.{parts-with}
@@ -152,10 +152,6 @@ module _ (cat : ℕ) (s : List ℕ) (list item : ℕ) (ch : Change) (os : Octets
   abbrev new : List ℕ
   new = writeFrame (body (paperOf cat)) now
 
-  pub edit-new : (room : ℕ) → editOf cat s list item ch room ≡ withRoom room new
-  unfolding editOf editIn afresh
-  edit-new room = rw (field-was, is-item, is-listed, change-is) refl
-
   done : Edit cat s list item ch (length new) new
   unfolding reading
   done = record { read = reading; is-item = subst T (sym is-item) tt; on-list = is-listed; new = now; change-is = change-is; octets-are = refl; has-room = le-refl (length new) }
@@ -184,7 +180,7 @@ module _ (cat : ℕ) (s : List ℕ) (list item : ℕ) (ch : Change) (os : Octets
   pub edit-is-write : (room : ℕ) → editOf cat s list item ch room ≡ writeOf (recordOf cat now) room
   unfolding writeOf recordOf
   edit-is-write room =
-      edit-new room ∙ ap (withRoom room) new-written
+      edit-gives done room ∙ ap (withRoom room) new-written
       ∙ sym (ap₂ (λ x y. pick x (pick y (withRoom room (written (recordOf cat now))) (refused 10 0)) (refused 1 0)) (holds (known cat) (t .known-is)) (holds (writable (recordOf cat now)) new-writable))
 
   pub new-field : IsField cat new (recordOf cat now)

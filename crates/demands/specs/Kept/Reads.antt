@@ -24,6 +24,7 @@ use Rattle.demands.specs.RoundTrips.{written-reads}
 use Rattle.demands.specs.Terms.{recordOf, IsField, numbered, bitOf}
 use Rattle.demands.specs.Demands.{parts, Reads, Demand2}
 use Rattle.demands.specs.Defined.{handed, program}
+use Rattle.demands.specs.Edited.{room-enough}
 use Rattle.demands.specs.Kept.Fields.{accepted-is-field, is-field-accepted, field-writable}
 use Rattle.demands.specs.Kept.Refusals.{reading, items-are, absent-is, present-here}
 use Rattle.demands.specs.Kept.Parts.{field-parts, before-parts}
@@ -73,7 +74,7 @@ demand2 = record {
   fields = λ cat s f o. reads cat s o f;
   only-fields = λ cat s n o e. (accepted-is-field cat s o n e) .0;
   read-back = λ f out n e. written-reads f out (record { answer = refl; output = refl }) e refl;
-  listed = λ s out r. rw (le-leb (length (sheetOf s)) (length out) r) refl;
+  listed = λ s out r. ap (λ o. handed o out) (room-enough {b = sheetOf s} r);
   angles = angle-nearest;
   reads-alike = read-behind;
   sheets-alike = sheet-behind;

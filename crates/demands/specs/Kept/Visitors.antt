@@ -8,7 +8,7 @@ use native.Mathlib.Omega.{arith}
 use lib.Dec.{T, eqb}
 use lib.ListN.{length, take}
 use lib.Seq.{take-length}
-use borrow.Author.Tests.{le-leb, lt-leb, eq-eqb, ne-eqb, eqb-false}
+use borrow.Author.Tests.{lt-leb, eq-eqb, ne-eqb, eqb-false}
 use Rattle.codec.specs.Pick.{pick}
 use Rattle.codec.specs.Codec.{Octets}
 use Rattle.codec.specs.Field.{body}
@@ -34,6 +34,7 @@ use Rattle.demands.specs.Terms.{recordOf, IsField, numbered, bitOf}
 use Rattle.demands.specs.Demands.{parts}
 use Rattle.demands.specs.Visitors.{partsOff, AlikeOff, Copy, Visitors}
 use Rattle.demands.specs.Defined.{handed, program}
+use Rattle.demands.specs.Edited.{room-enough}
 use Rattle.demands.specs.Kept.Fields.{Holds, field-holds, fault-refused}
 use Rattle.demands.specs.Kept.Refusals.{handed-refusal, item-bit, reading, record-bit, present-is}
 use Rattle.demands.specs.Kept.Parts.{field-parts}
@@ -141,7 +142,7 @@ module _ (cat : ℕ) (s : List ℕ) (f : Record) (os : Octets s) (hs : IsField c
     absent = absent;
     kept = kept;
     turns = turns;
-    given = λ out h. ap (λ o. handed o out) (copy-is from list (length out)) ∙ rw (le-leb (length octets) (length out) h) refl;
+    given = λ out h. ap (λ o. handed o out) (copy-is from list (length out) ∙ room-enough {b = octets} h);
     no-room = λ out h. handed-refusal (copy-is from list (length out) ∙ rw (lt-leb (length octets) (length out) h) refl) out;
   }
 
