@@ -11,6 +11,7 @@ pub mod Behind
 pub mod Reads
 pub mod Edits
 pub mod Visitors
+pub mod Members
 
 pub kept : Demands program
 kept = record { one = demand1; two = demand2; three = demand3 }

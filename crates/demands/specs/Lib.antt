@@ -2,9 +2,11 @@
 pub mod Terms
 pub mod Demands
 pub mod Visitors
+pub mod Members
 pub mod Defined
 pub mod Kept
 pub mod Angles
 pub mod RoundTrips
 pub mod Edited
+pub mod Orders
 pub mod Longest

@@ -125,22 +125,22 @@ module _ {cat : ℕ} {s : List ℕ} {list item : ℕ} {ch : Change} {room : ℕ}
 
   -- "every other item keeps its octets", and is there or absent as before
   module _ (j : ℕ) (h : T (isItem (paperOf cat) j)) (n : j ≢ item) where
-    other : j - 1 ≢ item - 1
+    pub places-differ : j - 1 ≢ item - 1
     unfolding isItem
-    other e =
+    places-differ e =
         let a : 1 ≤ j = leb→le 1 j (and-l (leb 1 j) _ h) in
         let c : 1 ≤ item = leb→le 1 item (and-l (leb 1 item) _ (d .is-item)) in
         n (omega arith)
 
     pub others-octets : partOf b (viewOf cat b j) ≡ partOf s (viewOf cat s j)
     others-octets =
-        part-is-text read-edited j h edited-octets ∙ others-keep-text edit-splice (j - 1) other ∙ sym (part-is-text (d .read) j h os)
+        part-is-text read-edited j h edited-octets ∙ others-keep-text edit-splice (j - 1) places-differ ∙ sym (part-is-text (d .read) j h os)
 
     pub others-present : viewNumber (viewOf cat b j) ≡ viewNumber (viewOf cat s j)
     unfolding present
     others-present =
         view-number read-edited j h
-        ∙ ap (λ x. pick (eqb x 1) 0 15) (others-keep-flag edit-splice (j - 1) other)
+        ∙ ap (λ x. pick (eqb x 1) 0 15) (others-keep-flag edit-splice (j - 1) places-differ)
         ∙ sym (view-number (d .read) j h)
 
   -- "and its turn": beside the edited item, what stands before it and what stands behind it are as they were, and only LEN and the item's own bit change
