@@ -55,9 +55,9 @@ def texts_by_length(cat):
 
 
 @functools.cache
-def few(cat):
-    """{item from 0: octets}: every item with one part, one subfield, and numbers drawn."""
-    pick = drawn(random.Random(cat))
+def few(cat, seed=None):
+    """{item from 0: octets}: every item with one part, one subfield, and numbers drawn, by the category or another seed."""
+    pick = drawn(random.Random(cat if seed is None else seed))
     return {i: item_octets(item, min(1, len(item[1])), [0], pick) for i, item in enumerate(PAPERS[cat])}
 
 
@@ -67,10 +67,15 @@ def whole(cat):
     return {i: whole_item(item, pick) for i, item in enumerate(PAPERS[cat])}
 
 
-def with_item(items, item, octets):
-    """The field of these items, but of this one with these octets; None where it is absent."""
+def set_item(items, item, octets):
+    """These items, but this one with these octets; None where it is absent."""
     rest = {i: text for i, text in items.items() if i != item - 1}
-    return field_of(rest if octets is None else {**rest, item - 1: octets})
+    return rest if octets is None else {**rest, item - 1: octets}
+
+
+def with_item(items, item, octets):
+    """The field of these."""
+    return field_of(set_item(items, item, octets))
 
 
 @functools.cache
@@ -293,12 +298,12 @@ def vectors():
     yield from unknown()
 
 
+def request(room, cat, field, listed, item, new):
+    return (b"remove", cat, field, listed, item, room) if new is None else (b"replace", cat, field, listed, item, new, room)
+
+
 def requests():
-    for room, cat, field, listed, item, new in vectors():
-        if new is None:
-            yield (b"remove", cat, field, listed, item, room)
-        else:
-            yield (b"replace", cat, field, listed, item, new, room)
+    yield from itertools.starmap(request, vectors())
 
 
 # ---- what the edits reach

@@ -4,8 +4,8 @@
     python3 tests/vectors.py          says which of the two is not as it is made here
     python3 tests/vectors.py write    makes both
 
-The requests are those of tests/reads.py, records.py, edits.py, copies.py and sheets.py, and the lines of tests/lines.py that are none; the answers are those of
-tests/refdesk.py. Nothing here comes from crates/.
+The requests are those of tests/reads.py, records.py, edits.py, copies.py, sheets.py and orders.py, and the lines of tests/lines.py that are none; the answers
+are those of tests/refdesk.py. Nothing here comes from crates/.
 """
 import random
 import sys
@@ -14,6 +14,7 @@ from pathlib import Path
 
 import copies
 import edits
+import orders
 import reads
 import records
 import sheets
@@ -21,7 +22,7 @@ from lines import EXAMPLES, WORKED, WRONG, at_the_limits, either_case, noise
 from refdesk import answer, answers, line_of
 
 CRATE = Path(__file__).resolve().parent.parent / "crates" / "refdesk"
-SOURCES = (reads, records, edits, copies, sheets)
+SOURCES = (reads, records, edits, copies, sheets, orders)
 FIELD = {*range(1, 10), "ok"}
 DUE = {  # the answers that each form of request can give: all have to be there
     b"read": FIELD,
