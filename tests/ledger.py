@@ -26,7 +26,7 @@ PROMISES = [
     ("layout", "`is_known`, `items_of`, `longest_of`, `is_item`, `number_at`, `which_number`"),
     ("scope", "01's operations and the visitors' copy as definitions: the edge octets and sheets computed from them"),
     ("outputs", "`deliver`"),
-    ("demands", "the three demands and what is asked of the visitors' copy, and that the program which `scope` defines meets them"),
+    ("demands", "the three demands, what is asked of the visitors' copy and of two members, and that the program which `scope` defines meets them"),
     ("lengths", "`format_of`"),
     ("shapes", "`shape_at`"),
     ("spots", "`spot_at`, `spot_of`"),
