@@ -17,6 +17,7 @@ pub mod Flags
 pub mod Long
 pub mod Arms
 pub mod Printed
+pub mod Mask
 pub mod Meaning
 pub mod Faults
 pub mod Alone

@@ -115,3 +115,10 @@ rightEntry (fixed s) = rightAll 0 (s then none)
 unfoldable pub right : List Entry → Bool
 right none = true
 right (e then es) = rightEntry e && right es
+
+-- ---- the items that a paper has, by their names
+
+abbrev pub entryNames : List Entry → List String
+entryNames none = none
+entryNames (compound name p qs ss then es) = name then entryNames es
+entryNames (fixed s then es) = s .name then entryNames es

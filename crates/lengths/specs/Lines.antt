@@ -10,12 +10,14 @@ use Rattle.codec.specs.Pick.{pick}
 use Rattle.codec.specs.Radix.{total}
 use Rattle.codec.specs.Line.{Kind, plain, signed, limited, Piece, spare, num, Line, widths, count}
 use Rattle.codec.specs.Item.{Item, linesOf}
+use Rattle.codec.specs.Printed.{Structure, Entry, compound, fixed}
+use Rattle.codec.specs.Mask.{sparesOf, spareMask}
 use Rattle.lengths.specs.declared.Length.{Length}
 use Rattle.lengths.specs.declared.Pieces.{Pieces}
 use Rattle.lengths.specs.declared.Format.{Format}
-use Rattle.papers.specs.Cat048.{cat048}
-use Rattle.papers.specs.Cat021.{cat021}
-use Rattle.papers.specs.Cat007.{cat007}
+use Rattle.papers.specs.Cat048.{printed048, cat048}
+use Rattle.papers.specs.Cat021.{printed021, cat021}
+use Rattle.papers.specs.Cat007.{printed007, cat007}
 
 -- ---- the items: 007's after its first are 048's (Laws.Papers, items-shared)
 
@@ -56,16 +58,6 @@ countAt b = count (lineAt b .pieces)
 
 -- ---- a line as a row of numbers
 
--- the bits that must be 0 in the octets of a line, as one number
-unfoldable pub maskOf : List Piece → ℕ
-maskOf [] = 0
-maskOf (spare w ∷ ps) = (2 ^ w - 1) * 2 ^ total (widths ps) + maskOf ps
-maskOf (num k w ∷ ps) = maskOf ps
-
-unfoldable pub spareMask : Line → ℕ
-unfolding maskOf
-spareMask l = maskOf (l .pieces) * 2 ^ l .fx
-
 -- the kind of a number: 1 plain, 2 signed, 3 a latitude's and 4 an altitude's limits. A piece is an octet, kind × 32 + bits, kind 0 for a spare;
 -- the first piece is the lowest octet
 unfoldable pub kindCode : Kind → ℕ
@@ -99,17 +91,31 @@ narrow [] = true
 narrow (spare w ∷ ps) = narrow ps
 narrow (num k w ∷ ps) = leb w 24 && narrow ps
 
--- ---- the tables, as the papers have them: of each line its octets and spare bits, and its pieces
+-- ---- the table of lengths, as the papers print it: of each chain part and subfield its octets and the bits that it calls spare, an item's chain parts first
+
+unfoldable pub structuresIn : List Entry → List Structure
+structuresIn [] = []
+structuresIn (compound name p qs ss ∷ es) = p ∷ (qs ++ (ss ++ structuresIn es))
+structuresIn (fixed s ∷ es) = s ∷ structuresIn es
+
+unfoldable pub structures : List Structure
+unfolding structuresIn
+structures = structuresIn (printed048 ++ (printed021 ++ take 1 printed007))
+
+abbrev pub printedLength : Structure → Length
+printedLength s = (s .octets, sparesOf (s .runs))
+
+unfoldable pub lengths : List Length
+unfolding structures
+lengths = map printedLength structures
+
+-- ---- both tables line by line: the octets and spare bits of a line (Laws.Lines, lengths-at), and its pieces
 
 abbrev pub lengthOf : Line × ℕ → Length
 lengthOf p = (p .0 .octets, spareMask (p .0))
 
 abbrev pub takenOf : Line × ℕ → Pieces
 takenOf p = (codeOf (p .0 .pieces), length (p .0 .pieces), p .0 .fx, p .1, p .0 .flag)
-
-unfoldable pub lengths : List Length
-unfolding placed spareMask
-lengths = map lengthOf placed
 
 unfoldable pub pieces : List Pieces
 unfolding placed codeOf

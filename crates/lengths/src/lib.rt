@@ -10,7 +10,8 @@ pub struct Format {
     // How many octets it has, and which bits of them are spare.
     pub octets: usize,
     pub spare: u64,
-    // Its pieces, an octet each, the first lowest: kind × 32 + bits, kind 0 spare, 1 plain, 2 signed, 3 a latitude, 4 an altitude; and how many there are.
+    // Its pieces, an octet each, the first lowest: kind × 32 + bits, kind 1 plain, 2 signed, 3 a latitude, 4 an altitude, 0 for bits that hold no number; and how
+    // many there are.
     pub pieces: u64,
     pub runs: usize,
     // The bits below its pieces: 1 in a chain part, for FX, and 0 in a subfield.
@@ -21,71 +22,58 @@ pub struct Format {
     pub flag: usize,
 }
 
-// The table of item and subfield lengths, beside the papers: of each chain part and subfield its octets, and its spare bits in the order in which the paper
-// prints its bits, an octet's together. An item's chain parts come first.
+// The table of item and subfield lengths, beside the papers: of each chain part and subfield its octets, and its mask, the spare bits in the order in which the
+// paper prints its bits, an octet's together. Behind it stand the document and section of each paper that prints it, its item, and its part or its subfield's
+// number and name. An item's chain parts come first.
 struct Length(usize, u64);
 
 const LENGTHS: [Length; 46] = [
-    // document 000, 2.3 MD5
-    Length(1, 0b00000000), // part 1
-    Length(1, 0b00000001), // SUM
-    Length(4, 0b11000000_00000000_11000000_11000000), // PMN
-    Length(6, 0b00000000_00000000_00000000_00000000_00000000_00000000), // POS
-    Length(2, 0b10000000_00000000), // GA
-    Length(2, 0b00010000_00000000), // EM1
-    Length(1, 0b00000000), // TOS
-    Length(1, 0b11000000), // XP
-    // document 000, 2.4 M5N; document 004, 2.4
-    Length(1, 0b00000000), // part 1
-    Length(1, 0b01111110), // part 2
-    Length(1, 0b00000001), // SUM
-    Length(4, 0b11000000_00000000_11110000_00000000), // PMN
-    Length(6, 0b00000000_00000000_00000000_00000000_00000000_00000000), // POS
-    Length(2, 0b10000000_00000000), // GA
-    Length(2, 0b00010000_00000000), // EM1
-    Length(1, 0b00000000), // TOS
-    Length(1, 0b11000000), // XP
-    Length(1, 0b11100000), // FOM
-    // document 000, 2.5 M4E; document 004, 2.5
-    Length(1, 0b11111000), // part 1
-    // document 000, 2.6 RPC; document 004, 2.6
-    Length(1, 0b00001110), // part 1
-    Length(1, 0b00000000), // SCO
-    Length(2, 0b00000000_00000000), // SCR
-    Length(2, 0b00000000_00000000), // RW
-    Length(2, 0b00000000_00000000), // AR
-    // document 000, 2.7 ERR; document 004, 2.7
-    Length(3, 0b00000000_00000000_00000000),
-    // document 003, 2.3 BPS
-    Length(2, 0b11110000_00000000),
-    // document 003, 2.4 SelH
-    Length(2, 0b11110000_00000000),
-    // document 003, 2.5 NAV
-    Length(1, 0b00000011),
-    // document 003, 2.6 GAO
-    Length(1, 0b00000000),
-    // document 003, 2.7 SGV
-    Length(2, 0b00000000_00000000), // part 1
-    Length(1, 0b00000000), // part 2
-    // document 003, 2.8 STA
-    Length(1, 0b00000000), // part 1
-    Length(1, 0b00000000), // part 2
-    Length(1, 0b00000000), // part 3
-    Length(1, 0b00000000), // part 4
-    Length(1, 0b00000000), // part 5
-    Length(1, 0b00000010), // part 6
-    // document 003, 2.9 TNH
-    Length(2, 0b00000000_00000000),
-    // document 003, 2.10 MES
-    Length(1, 0b00000010), // part 1
-    Length(1, 0b00000000), // SUM
-    Length(4, 0b11000000_00000000_11111000_00000000), // PNO
-    Length(2, 0b01010000_00000000), // EM1
-    Length(1, 0b11000000), // XP
-    Length(1, 0b11100000), // FOM
-    Length(2, 0b01010000_00000000), // M2
-    // document 004, 2.3 TA
-    Length(4, 0b11000000_00000000_11000000_00000000),
+    Length(1, 0b00000000), // 000 2.3 MD5 part 1
+    Length(1, 0b00000001), // 000 2.3 MD5 #1 SUM
+    Length(4, 0b11000000_00000000_11000000_11000000), // 000 2.3 MD5 #2 PMN
+    Length(6, 0b00000000_00000000_00000000_00000000_00000000_00000000), // 000 2.3 MD5 #3 POS
+    Length(2, 0b10000000_00000000), // 000 2.3 MD5 #4 GA
+    Length(2, 0b00010000_00000000), // 000 2.3 MD5 #5 EM1
+    Length(1, 0b00000000), // 000 2.3 MD5 #6 TOS
+    Length(1, 0b11000000), // 000 2.3 MD5 #7 XP
+    Length(1, 0b00000000), // 000 2.4, 004 2.4 M5N part 1
+    Length(1, 0b01111110), // 000 2.4, 004 2.4 M5N part 2
+    Length(1, 0b00000001), // 000 2.4, 004 2.4 M5N #1 SUM
+    Length(4, 0b11000000_00000000_11110000_00000000), // 000 2.4, 004 2.4 M5N #2 PMN
+    Length(6, 0b00000000_00000000_00000000_00000000_00000000_00000000), // 000 2.4, 004 2.4 M5N #3 POS
+    Length(2, 0b10000000_00000000), // 000 2.4, 004 2.4 M5N #4 GA
+    Length(2, 0b00010000_00000000), // 000 2.4, 004 2.4 M5N #5 EM1
+    Length(1, 0b00000000), // 000 2.4, 004 2.4 M5N #6 TOS
+    Length(1, 0b11000000), // 000 2.4, 004 2.4 M5N #7 XP
+    Length(1, 0b11100000), // 000 2.4, 004 2.4 M5N #8 FOM
+    Length(1, 0b11111000), // 000 2.5, 004 2.5 M4E part 1
+    Length(1, 0b00001110), // 000 2.6, 004 2.6 RPC part 1
+    Length(1, 0b00000000), // 000 2.6, 004 2.6 RPC #1 SCO
+    Length(2, 0b00000000_00000000), // 000 2.6, 004 2.6 RPC #2 SCR
+    Length(2, 0b00000000_00000000), // 000 2.6, 004 2.6 RPC #3 RW
+    Length(2, 0b00000000_00000000), // 000 2.6, 004 2.6 RPC #4 AR
+    Length(3, 0b00000000_00000000_00000000), // 000 2.7, 004 2.7 ERR
+    Length(2, 0b11110000_00000000), // 003 2.3 BPS
+    Length(2, 0b11110000_00000000), // 003 2.4 SelH
+    Length(1, 0b00000011), // 003 2.5 NAV
+    Length(1, 0b00000000), // 003 2.6 GAO
+    Length(2, 0b00000000_00000000), // 003 2.7 SGV part 1
+    Length(1, 0b00000000), // 003 2.7 SGV part 2
+    Length(1, 0b00000000), // 003 2.8 STA part 1
+    Length(1, 0b00000000), // 003 2.8 STA part 2
+    Length(1, 0b00000000), // 003 2.8 STA part 3
+    Length(1, 0b00000000), // 003 2.8 STA part 4
+    Length(1, 0b00000000), // 003 2.8 STA part 5
+    Length(1, 0b00000010), // 003 2.8 STA part 6
+    Length(2, 0b00000000_00000000), // 003 2.9 TNH
+    Length(1, 0b00000010), // 003 2.10 MES part 1
+    Length(1, 0b00000000), // 003 2.10 MES #1 SUM
+    Length(4, 0b11000000_00000000_11111000_00000000), // 003 2.10 MES #2 PNO
+    Length(2, 0b01010000_00000000), // 003 2.10 MES #3 EM1
+    Length(1, 0b11000000), // 003 2.10 MES #4 XP
+    Length(1, 0b11100000), // 003 2.10 MES #5 FOM
+    Length(2, 0b01010000_00000000), // 003 2.10 MES #6 M2
+    Length(4, 0b11000000_00000000_11000000_00000000), // 004 2.3 TA
 ];
 
 // The same lines by their pieces, in the order of the fields of a format: pieces, runs, bits below, first slot, flag.

@@ -94,8 +94,14 @@ MES =
     []
     (SUM ∷ PNO ∷ EM1 ∷ XP ∷ FOM ∷ M2 ∷ [])
 
--- ---- 2.2 Items Indicator, bit 8 first
+-- ---- 2.2 Items Indicator
 
+abbrev pub indicator021 : Structure
+indicator021 =
+    sub "Items Indicator" 1
+    (bit 8 "BPS" ∷ bit 7 "SelH" ∷ bit 6 "NAV" ∷ bit 5 "GAO" ∷ bit 4 "SGV" ∷ bit 3 "STA" ∷ bit 2 "TNH" ∷ bit 1 "MES" ∷ [])
+
+-- the items in the order of its bits, bit 8 first
 unfoldable pub printed021 : List Entry
 printed021 = BPS ∷ SelH ∷ NAV ∷ GAO ∷ SGV ∷ STA ∷ TNH ∷ MES ∷ []
 

@@ -97,8 +97,14 @@ RPC =
 abbrev pub ERR : Entry
 ERR = fixed (sub "ERR" 3 (bits 24 1 "RHO" LSB 1 over 256 of "NM" ∷ []))
 
--- ---- 2.2 Items indicator, bit 8 first; bits 3/1 are spare
+-- ---- 2.2 Items indicator
 
+abbrev pub indicator048 : Structure
+indicator048 =
+    sub "Items indicator" 1
+    (bit 8 "MD5" ∷ bit 7 "M5N" ∷ bit 6 "M4E" ∷ bit 5 "RPC" ∷ bit 4 "ERR" ∷ spares 3 1 ∷ [])
+
+-- the items in the order of its bits, bit 8 first
 unfoldable pub printed048 : List Entry
 printed048 = MD5 ∷ M5N ∷ M4E ∷ RPC ∷ ERR ∷ []
 

@@ -7,10 +7,12 @@ use lib.ListN.{length}
 use Rattle.codec.specs.Pick.{pick}
 use Rattle.codec.specs.Item.{Item, slots}
 use Rattle.codec.specs.Field.{longest}
-use Rattle.codec.specs.Printed.{Entry}
-use Rattle.papers.specs.Cat048.{printed048, cat048}
-use Rattle.papers.specs.Cat021.{printed021, cat021}
-use Rattle.papers.specs.Cat007.{printed007, cat007}
+use Rattle.codec.specs.Printed.{spares, Structure, Entry}
+use Rattle.codec.specs.Mask.{sparesOf}
+use Rattle.papers.specs.Notation.{sub}
+use Rattle.papers.specs.Cat048.{indicator048, printed048, cat048}
+use Rattle.papers.specs.Cat021.{indicator021, printed021, cat021}
+use Rattle.papers.specs.Cat007.{indicator007, printed007, cat007}
 
 -- 1 is given "when category is not 7, 21 or 48"
 unfoldable pub known : ℕ → Bool
@@ -22,6 +24,17 @@ paperOf cat = pick (eqb cat 48) cat048 (pick (eqb cat 21) cat021 (pick (eqb cat 
 -- the same as it is printed
 unfoldable pub printedOf : ℕ → List Entry
 printedOf cat = pick (eqb cat 48) printed048 (pick (eqb cat 21) printed021 (pick (eqb cat 7) printed007 []))
+
+-- 2.2 of each paper; without a paper every place is spare
+abbrev pub noIndicator : Structure
+noIndicator = sub "" 1 (spares 8 1 ∷ [])
+
+unfoldable pub indicatorOf : ℕ → Structure
+indicatorOf cat = pick (eqb cat 48) indicator048 (pick (eqb cat 21) indicator021 (pick (eqb cat 7) indicator007 noIndicator))
+
+-- the places of the indicator that are spare, as one number
+abbrev pub spareOf : ℕ → ℕ
+spareOf cat = sparesOf (indicatorOf cat .runs)
 
 -- "Each category carries three numbers of its own: its category number, its count of items and its longest field"
 abbrev pub itemsOf : ℕ → ℕ

@@ -4,14 +4,14 @@
 ghost use mathlib.Core.Path.{_≡_};
 ghost use mathlib.Core.Bool.{true};
 ghost use mathlib.Core.List.{List};
-ghost use Prim.Native.Nat.{_+_, _-_, _≤_, _<_};
+ghost use Prim.Native.Nat.{_+_, _≤_, _<_};
 ghost use lib.Dec.{T};
 ghost use lib.IntN.{ℤ};
-ghost use lib.ListN.{length, drop, set};
+ghost use lib.ListN.{length, set};
 ghost use Rattle.codec.specs.Codec.{Res};
 ghost use Rattle.codec.specs.Line.{Held};
 ghost use Rattle.codec.specs.Item.{slots};
-ghost use Rattle.codec.specs.Field.{flags, allZero};
+ghost use Rattle.codec.specs.Field.{flags};
 ghost use Rattle.codec.specs.Meaning.{lenOf};
 ghost use Rattle.papers.specs.Papers.{known};
 ghost use Rattle.scope.specs.Reading.{readOf};
@@ -241,14 +241,6 @@ fn row(
     Step::Next(0, at)
 }
 
-// Whether the places behind n items are 0 in the indicator.
-fn no_spare(ind: u8, n: usize) -> bool
-    requires { ⌜ n ≤ 8 ⌝ }
-    ensures { λ r. ⌜ r ≡ allZero (drop n (flags ind)) ⌝ }
-{
-    leaves::wide(ind) % (1usize << (8 - n)) == 0
-}
-
 // A step as the answer: how far it came, or its refusal unchanged.
 fn as_answer(a: Step) -> Answer
     ensures { λ r. ⌜ r ≡ asAnswer a ⌝ }
@@ -273,7 +265,7 @@ fn items(
 {
     let n = layout::items_of(cat);
     let first = spots::spot_of(cat);
-    if no_spare(ind, n) {
+    if ind & layout::spare_of(cat) == 0 {
         let a = row(s, first, n, ind, &mut *numbers, &mut *parts, &mut *starts);
         let Step::Next(_, next) = a else {
             return as_answer(a);

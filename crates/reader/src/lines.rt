@@ -101,7 +101,7 @@ fn put(numbers: &mut Numbers, at: usize, z: i32)
     numbers[at] = z;
 }
 
-// The number of one piece into its slot: the slots that it took, 0 for a spare piece; 2 for a number outside the limits of its kind.
+// The number of one piece into its slot: the slots that it took, 0 where the bits hold none; 2 for a number outside the limits of its kind.
 fn piece(numbers: &mut Numbers, n: u64, next: u64, w: u64, kind: u64, slot: usize) -> usize
     requires { ⌜ (w < 32) × (next < 64) × ((kind ≡ 0 → ⊥) → (w ≤ 24) × (slot < SLOTS)) ⌝ }
     ensures { λ r. ⌜ Took kind w n next slot (now (numbers .entry)) r (now (numbers .exit)) ⌝ }

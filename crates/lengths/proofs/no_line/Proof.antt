@@ -1,7 +1,8 @@
 -- `lengths::no_line` meets its contract: behind the last line there is none. Assumes nothing.
 use mathlib.Core.Path.{sym, ap}
 use Rattle.codec.specs.Laws.Arms.{past}
-use Rattle.lengths.specs.Lines.{maskOf, spareMask, codeOf, formatOf}
+use Rattle.codec.specs.Mask.{maskOf, spareMask}
+use Rattle.lengths.specs.Lines.{codeOf, formatOf}
 use Rattle.lengths.specs.Laws.Lines.{past-lines}
 use Rattle.lengths.proofs.no_line.Statement.{statement}
 use Rattle.lengths.proofs.no_line.Tie as tie

@@ -8,11 +8,12 @@ use lib.ListN.{length, getD, List·getD-map, List·getD-eq-default}
 use Rattle.codec.specs.Radix.{total}
 use Rattle.codec.specs.Line.{Line, widths, count, fills}
 use Rattle.codec.specs.Item.{linesOf}
+use Rattle.codec.specs.Mask.{sparesOf, maskOf, spareMask}
 use Rattle.codec.specs.Laws.Tests.{and-l, and-r}
-use Rattle.papers.specs.Cat048.{cat048}
-use Rattle.papers.specs.Cat021.{cat021}
-use Rattle.papers.specs.Cat007.{cat007}
-use Rattle.lengths.specs.Lines.{items, noLine, placedFrom, placedIn, placed, placedAt, lineAt, firstAt, kindCode, codeOf, kindOf, pieceOf, piecesFrom, narrow, spareMask, maskOf, lengthOf, takenOf, lengths, pieces}
+use Rattle.papers.specs.Cat048.{printed048, cat048}
+use Rattle.papers.specs.Cat021.{printed021, cat021}
+use Rattle.papers.specs.Cat007.{printed007, cat007}
+use Rattle.lengths.specs.Lines.{items, noLine, placedFrom, placedIn, placed, placedAt, lineAt, firstAt, kindCode, codeOf, kindOf, pieceOf, piecesFrom, narrow, structuresIn, structures, lengthOf, takenOf, lengths, pieces}
 
 abbrev pub every : {A : Type 0} → (A → Bool) → List A → Bool
 every f [] = true
@@ -67,10 +68,15 @@ pieces-right b =
     ∙ ap (λ l. getD l b []) pieces-all
     ∙ List·getD-map (λ (p : Line × ℕ). p .0 .pieces) placed b (noLine, 0)
 
+-- the bits that a structure calls spare are the mask of its line
+lengths-lines : lengths ≡ map lengthOf placed
+unfolding lengths structures structuresIn printed048 printed021 printed007 sparesOf spareMask maskOf total widths placed placedIn placedFrom linesOf items cat048 cat021 cat007
+lengths-lines = refl
+
 -- the tables have a line's columns at the line's place
 pub lengths-at : (b : ℕ) → getD lengths b (0, 0) ≡ lengthOf (placedAt b)
-unfolding lengths placedAt spareMask maskOf
-lengths-at b = List·getD-map lengthOf placed b (noLine, 0)
+unfolding placedAt spareMask maskOf
+lengths-at b = ap (λ l. getD l b (0, 0)) lengths-lines ∙ List·getD-map lengthOf placed b (noLine, 0)
 
 pub pieces-at : (b : ℕ) → getD pieces b (0, 0, 0, 0, 0) ≡ takenOf (placedAt b)
 unfolding pieces placedAt codeOf

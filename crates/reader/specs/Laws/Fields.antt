@@ -5,6 +5,7 @@ use mathlib.Core.List.{List, [], _∷_}
 use Prim.Native.Nat.{ℕ, zero, suc, _+_, _-_, _≤_, _<_}
 use native.Mathlib.Omega.{arith}
 use borrow.Author.Tests.{ltb-true, ltb-false, lt-ltb, le-ltb, eq-eqb, ne-eqb, eqb-true, eqb-false}
+use lib.Bits.{bitAnd}
 use lib.Dec.{T, ltb, eqb}
 use lib.IntN.{ℤ}
 use lib.ListN.{length, getD, take, drop}
@@ -17,8 +18,8 @@ use Rattle.codec.specs.Frame.{Outcome, accepted, refused, settle, readFrame}
 use Rattle.codec.specs.Meaning.{lenOf}
 use Rattle.codec.specs.Laws.Codec.{number-one}
 use Rattle.codec.specs.Laws.Frame.{mapOutcome, frame-empty, frame-small, frame-short, frame-whole}
-use Rattle.papers.specs.Papers.{known, paperOf, itemsOf}
-use Rattle.papers.specs.Laws.Papers.{few-items}
+use Rattle.papers.specs.Papers.{known, paperOf, itemsOf, spareOf}
+use Rattle.papers.specs.Laws.Papers.{few-items, spare-places}
 use Rattle.layout.specs.declared.Answer.{Answer}
 use Rattle.layout.specs.declared.Answer.the-variants.{Accepted, Refused}
 use Rattle.spots.specs.Spots.{spotAt, spotOf, itemOn, rowOk, itemsFrom}
@@ -152,6 +153,17 @@ walk-refused l ps ss len h = record { answer = rw h refl; numbers = rw h refl; p
 
 pub walk-same : {l : List ℤ} {ps ss : List ℕ} {len len′ : ℕ} {o o′ : Outcome Found} {a : Answer} {m : List ℤ} {qs ts : List ℕ} → len ≡ len′ → o ≡ o′ → WalkStands l ps ss len o a m qs ts → WalkStands l ps ss len′ o′ a m qs ts
 walk-same {l} {ps} {ss} {a = a} {m = m} {qs = qs} {ts = ts} el eo w = subst₂ (λ j x. WalkStands l ps ss j x a m qs ts) el eo w
+
+-- what the mask says of the places behind the last item
+module _ (cat ind : ℕ) (lt : ind < 256) {m : ℕ} (em : m ≡ spareOf cat) where
+  spare-said : {t : Bool} → eqb (bitAnd ind m) 0 ≡ t → allZero (drop (itemsOf cat) (flags ind)) ≡ t
+  spare-said e = sym (spare-places cat ind lt) ∙ ap (λ x. eqb (bitAnd ind x) 0) (sym em) ∙ e
+
+  pub spare-clear : bitAnd ind m ≡ 0 → allZero (drop (itemsOf cat) (flags ind)) ≡ true
+  spare-clear z = spare-said (eq-eqb (bitAnd ind m) 0 z)
+
+  pub spare-set : (bitAnd ind m ≡ 0 → ⊥) → allZero (drop (itemsOf cat) (flags ind)) ≡ false
+  spare-set z = spare-said (ne-eqb (bitAnd ind m) 0 z)
 
 -- the ways out of `items`
 module _ (cat ind : ℕ) (xs : List ℕ) (l : List ℤ) (ps ss : List ℕ) where

@@ -17,11 +17,12 @@ use Rattle.codec.specs.Radix.{total, cut, join, eights}
 use Rattle.codec.specs.Codec.{got, bad}
 use Rattle.codec.specs.Line.{Line, widths, count, clear, nums, inLimits, line, fills}
 use Rattle.codec.specs.Laws.Radix.{total-eights}
+use Rattle.codec.specs.Mask.{spareMask}
+use Rattle.codec.specs.Laws.Mask.{spare-test}
 use Rattle.codec.specs.Laws.Line.{wholeOf, digitsOf, line-short, line-spare, line-limit, line-there}
 use Rattle.lengths.specs.declared.Format.{Format}
-use Rattle.lengths.specs.Lines.{placedAt, lineAt, firstAt, countAt, piecesFrom, spareMask, formatOf}
+use Rattle.lengths.specs.Lines.{placedAt, lineAt, firstAt, countAt, piecesFrom, formatOf}
 use Rattle.lengths.specs.Laws.Lines.{line-filled}
-use Rattle.lengths.specs.Laws.Mask.{spare-test}
 use Rattle.lengths.specs.Laws.Formats.{format-octets, format-pieces, format-fx, format-first}
 use Rattle.reader.specs.Steps.{stepOf, afterOf, lineRun}
 use Rattle.reader.specs.Numbers.{numsAt}
