@@ -23,7 +23,7 @@ PROMISES = [
     ("leaves", "`wide`, `wide64`, `octet`, `octet64`, `less`, `less64`, `front`"),
     ("flags", "`index`, `present`, `with_item`, `without_item`, `is_one`"),
     ("papers", "the papers as data: whole, alike where two papers are, and reading the specimens"),
-    ("layout", "`is_known`, `items_of`, `longest_of`, `is_item`, `number_at`, `which_number`"),
+    ("layout", "`is_known`, `items_of`, `spare_of`, `longest_of`, `is_item`, `number_at`, `which_number`"),
     ("scope", "01's operations and the visitors' copy as definitions: the edge octets and sheets computed from them"),
     ("outputs", "`deliver`"),
     ("demands", "the three demands, what is asked of the visitors' copy and of two members, and that the program which `scope` defines meets them"),

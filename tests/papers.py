@@ -67,6 +67,14 @@ PAPERS = {
     7: [TA, M5N, M4E, RPC, ERR],
 }
 
+# 2.2 of each paper, the items indicator, and the section of each item.
+INDICATORS = {48: flags("MD5 M5N M4E RPC ERR", 8), 21: flags("BPS SelH NAV GAO SGV STA TNH MES", 8), 7: flags("TA M5N M4E RPC ERR", 8)}
+SECTIONS = {
+    48: {"MD5": "2.3", "M5N": "2.4", "M4E": "2.5", "RPC": "2.6", "ERR": "2.7"},
+    21: {"BPS": "2.3", "SelH": "2.4", "NAV": "2.5", "GAO": "2.6", "SGV": "2.7", "STA": "2.8", "TNH": "2.9", "MES": "2.10"},
+    7: {"TA": "2.3", "M5N": "2.4", "M4E": "2.5", "RPC": "2.6", "ERR": "2.7"},
+}
+
 # What one step of a number is, by the number's key on the sheet: (numerator, denominator, unit, what 0 stands for). No other number has a
 # printed LSB. The units are printed as degrees or °, ft, s, db, NM, hPa, meters and kts.
 MODE_5 = {"POS.LAT": (180, 2 ** 23, "degrees", 0), "POS.LON": (180, 2 ** 23, "degrees", 0),  # printed with its value, 2.145767*10-05

@@ -1,12 +1,15 @@
 #!/usr/bin/env python3
 """01's worked octets, edits and longest fields, and edits, copies and records written by hand, held against the reference implementation of the tests;
-and the papers' data of crates/papers, as tests/slots.py takes it, held against the transcription of the tests. And that each public function has its wrong
-programs, as tests/ledger.py counts them."""
+and the papers' data of crates/papers, as tests/slots.py takes it, and docs/SPARE.md held against the transcription of the tests. And that each public function
+has its wrong programs, as tests/ledger.py counts them."""
+from itertools import zip_longest
+
 import copies
 import ledger
 import slots
+import spares
 from edits import BASE, WORKED
-from papers import MEASURES, PAPERS
+from papers import INDICATORS, MEASURES, PAPERS, SECTIONS
 from reads import requests
 from reference import choose, copy, edit, keys, read, sheet, size, SLOTS, spare_bits, udeg, view, write
 
@@ -218,11 +221,12 @@ def same_measure(cat, key, number):
 
 
 def same_paper(cat):
-    """The count of the checks: one for each chain part and subfield, and one for each slot."""
+    """The count of the checks: one for the indicator, for each chain part and subfield, and for each slot."""
     entries, items = slots.paper(cat), PAPERS[cat]
     rows = slots.rows(entries)
     assert len(entries) == len(items), cat
-    checks = sum(same_item(cat, entry, item) for entry, item in zip(entries, items))
+    same_line(cat, slots.indicator(cat), 1, INDICATORS[cat], False)
+    checks = 1 + sum(same_item(cat, entry, item) for entry, item in zip(entries, items))
     assert [row.key for row in rows] == [key for item in items for key in keys(item)], cat
     flags = [f"{name}.{sub}" for name, parts, subs in items if parts for sub, _, _ in subs]
     assert [row.name for row in rows if row.key is None] == flags, cat
@@ -232,6 +236,37 @@ def same_paper(cat):
     above = [(row.name, row.number.hi + row.number.below) for row in rows if row.number.below]
     assert above == ([(f"M5N.{name}", bit) for name, bit in ABOVE] if cat != 21 else []), (cat, above)
     return checks + len(rows)
+
+
+# ---- docs/SPARE.md, which tests/spares.py makes from the tables of the code, against tests/papers.py
+
+def spare_row(section, item, place, octets, mask):
+    runs = []
+    for bit in (b for b in range(8 * octets, 0, -1) if mask >> b - 1 & 1):
+        if runs and runs[-1][-1] == bit + 1:
+            runs[-1].append(bit)
+        else:
+            runs.append([bit])
+    numbers = ", ".join(str(run[0]) if len(run) == 1 else f"{run[0]}/{run[-1]}" for run in runs)
+    return [section, item, place, str(octets), "`" + " ".join(f"{o:08b}" for o in mask.to_bytes(octets, "big")) + "`", numbers or "none"]
+
+
+def spare_rows(cat):
+    yield spare_row("2.2", "indicator", "", 1, spare_bits(1, INDICATORS[cat], False))
+    for name, parts, subs in PAPERS[cat]:
+        for k, (octets, numbers) in enumerate(parts, 1):
+            yield spare_row(SECTIONS[cat][name], name, f"part {k}", octets, spare_bits(octets, numbers, True))
+        for k, (sub, octets, numbers) in enumerate(subs, 1):
+            yield spare_row(SECTIONS[cat][name], name, f"#{k} {sub}" if parts else "", octets, spare_bits(octets, numbers, False))
+
+
+def same_spares(cat, page):
+    """The rows of the category's table on the page, below its head; the count of them."""
+    found = page.partition(f"\n## Category {cat:03} ")[2].partition("\n## ")[0]
+    cells = [[cell.strip() for cell in line[1:-1].split("|")] for line in found.splitlines() if line.startswith("| ")][1:]
+    wrong = [pair for pair in zip_longest(cells, spare_rows(cat)) if pair[0] != pair[1]]
+    assert not wrong, (cat, wrong)
+    return len(cells)
 
 
 def longest(cat):
@@ -269,6 +304,9 @@ for name, cat, field, *_ in requests():  # what is read is written again, as it 
         assert write(got[2], got[1]) == ("ok", field[:got[1]]), field
         checks += 1
 assert slots.differing() == [], "python3 tests/slots.py write"
+assert not spares.differs(), "python3 tests/spares.py write"
+assert spares.asked() == ["if ind & layout::spare_of(cat) == 0 {", "if n & format.spare == 0 {"], "one comparison with a mask, and no other condition"
+checks += sum(same_spares(cat, spares.PAGE.read_text(encoding="utf-8")) for cat in PAPERS)
 assert ledger.wanting() == [], "two wrong programs for each public function, one for a function that only hands on"
 assert set(MEASURES) <= {(cat, row.key) for cat in PAPERS for row in slots.rows(slots.paper(cat))}
 checks += sum(same_paper(cat) for cat in PAPERS)

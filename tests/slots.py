@@ -167,9 +167,9 @@ class Expression:
         return int(token, 0) if token[:1].isdigit() else self.value_of(token)
 
 
-def paper(cat, text=None):
-    """The entries of a category, in the order of the indicator's bits."""
-    defined = definitions(text or (SPECS / f"Cat{cat:03}.antt").read_text(encoding="utf-8"))
+def printed(cat, what):
+    """A definition of a category's file, by what stands before the category in its name."""
+    defined = definitions((SPECS / f"Cat{cat:03}.antt").read_text(encoding="utf-8"))
 
     def value_of(name):
         if name in NOTATION:
@@ -178,7 +178,16 @@ def paper(cat, text=None):
             raise SyntaxError(f"Cat{cat:03}.antt: {name!r} is neither defined there nor a word of the notation")
         return Expression(defined[name], value_of).whole()
 
-    return value_of(f"printed{cat:03}")
+    return value_of(f"{what}{cat:03}")
+
+
+def paper(cat):
+    """The entries of a category, in the order of the indicator's bits."""
+    return printed(cat, "printed")
+
+
+def indicator(cat):
+    return printed(cat, "indicator")
 
 
 # ---- slots and keys (01, 'The sheet'; crates/papers/specs/Names.antt)
