@@ -1,14 +1,13 @@
 -- The papers as the constant tables have them: the items that some paper has, each once, and their chain parts and subfields line by line.
 use mathlib.Core.Bool.{Bool, true, _&&_}
 use mathlib.Core.List.{List, [], _∷_, _++_, map}
-use Prim.Native.Nat.{ℕ, zero, suc, _+_, _-_, _*_, _^_, _/_, _%_}
+use Prim.Native.Nat.{ℕ, zero, suc, _+_, _*_, _/_, _%_}
 use lib.Dec.{leb, eqb}
 use lib.IntN.{pos, negsuc}
 use lib.ListN.{length, getD, take}
 use lib.Signed.{leZ}
 use Rattle.codec.specs.Pick.{pick}
-use Rattle.codec.specs.Radix.{total}
-use Rattle.codec.specs.Line.{Kind, plain, signed, limited, Piece, spare, num, Line, widths, count}
+use Rattle.codec.specs.Line.{Kind, plain, signed, limited, Piece, spare, num, Line, count}
 use Rattle.codec.specs.Item.{Item, linesOf}
 use Rattle.codec.specs.Printed.{Structure, Entry, compound, fixed}
 use Rattle.codec.specs.Mask.{sparesOf, spareMask}

@@ -25,7 +25,7 @@ paperOf cat = pick (eqb cat 48) cat048 (pick (eqb cat 21) cat021 (pick (eqb cat 
 unfoldable pub printedOf : ℕ → List Entry
 printedOf cat = pick (eqb cat 48) printed048 (pick (eqb cat 21) printed021 (pick (eqb cat 7) printed007 []))
 
--- 2.2 of each paper; without a paper every place is spare
+-- its section 2.2; without a paper every place is spare
 abbrev pub noIndicator : Structure
 noIndicator = sub "" 1 (spares 8 1 ∷ [])
 

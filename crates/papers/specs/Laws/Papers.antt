@@ -1,5 +1,5 @@
 -- What holds of every paper, by computed tests.
-use mathlib.Core.Path.{_≡_, refl, sym, ap, _∙_, subst}
+use mathlib.Core.Path.{_≡_, refl, ap, _∙_, subst}
 use mathlib.Core.Bool.{Bool, true, false, _&&_}
 use mathlib.Core.List.{List, []}
 use Prim.Native.Nat.{ℕ, _-_, _^_, _/_, _≤_, _<_}
@@ -19,43 +19,33 @@ use Rattle.codec.specs.Made.{made}
 use Rattle.codec.specs.Meaning.{bitsOf, Clear}
 use Rattle.codec.specs.Laws.Alone.{leastItem, someOctets}
 use Rattle.codec.specs.Laws.Flags.{spare-bits}
-use Rattle.codec.specs.Laws.Meaning.{length-items, right-good}
+use Rattle.codec.specs.Laws.Meaning.{right-good}
 use Rattle.papers.specs.Cat048.{indicator048, printed048, cat048}
 use Rattle.papers.specs.Cat021.{indicator021, printed021, cat021}
 use Rattle.papers.specs.Cat007.{indicator007, printed007, cat007}
 use Rattle.papers.specs.Papers.{LONGEST, known, paperOf, printedOf, noIndicator, indicatorOf, spareOf, itemsOf, longestOf, SLOTS, allSlots}
 
--- a fact of each paper, and of no paper, is a fact of every category's
-pub by-paper : (P : List Item → Type 0) → P cat048 → P cat021 → P cat007 → P [] → (cat : ℕ) → P (paperOf cat)
-unfolding paperOf
-by-paper P a b c d cat = go (eqb cat 48) (eqb cat 21) (eqb cat 7)
+-- a fact of each paper, and of no paper, is a fact of every category's: of its indicator, its entries and its items
+by-category : (P : Structure → List Entry → List Item → Type 0) → P indicator048 printed048 cat048 → P indicator021 printed021 cat021 → P indicator007 printed007 cat007 → P noIndicator [] [] → (cat : ℕ) → P (indicatorOf cat) (printedOf cat) (paperOf cat)
+unfolding indicatorOf printedOf paperOf
+by-category P a b c d cat = go (eqb cat 48) (eqb cat 21) (eqb cat 7)
   where
-    go : (x y z : Bool) → P (pick x cat048 (pick y cat021 (pick z cat007 [])))
+    go : (x y z : Bool) → P (pick x indicator048 (pick y indicator021 (pick z indicator007 noIndicator))) (pick x printed048 (pick y printed021 (pick z printed007 []))) (pick x cat048 (pick y cat021 (pick z cat007 [])))
     go true y z = a
     go false true z = b
     go false false true = c
     go false false false = d
 
+pub by-paper : (P : List Item → Type 0) → P cat048 → P cat021 → P cat007 → P [] → (cat : ℕ) → P (paperOf cat)
+by-paper P a b c d cat = by-category (λ s es its. P its) a b c d cat
+
 pub by-printed : (P : List Entry → Type 0) → P printed048 → P printed021 → P printed007 → P [] → (cat : ℕ) → P (printedOf cat)
-unfolding printedOf
-by-printed P a b c d cat = go (eqb cat 48) (eqb cat 21) (eqb cat 7)
-  where
-    go : (x y z : Bool) → P (pick x printed048 (pick y printed021 (pick z printed007 [])))
-    go true y z = a
-    go false true z = b
-    go false false true = c
-    go false false false = d
+by-printed P a b c d cat = by-category (λ s es its. P es) a b c d cat
 
 -- each paper is made from what is printed
 pub made-paper : (cat : ℕ) → made (printedOf cat) ≡ paperOf cat
-unfolding paperOf printedOf cat048 cat021 cat007
-made-paper cat = go (eqb cat 48) (eqb cat 21) (eqb cat 7)
-  where
-    go : (x y z : Bool) → made (pick x printed048 (pick y printed021 (pick z printed007 []))) ≡ pick x cat048 (pick y cat021 (pick z cat007 []))
-    go true y z = refl
-    go false true z = refl
-    go false false true = refl
-    go false false false = refl
+unfolding cat048 cat021 cat007
+made-paper cat = by-category (λ s es its. made es ≡ its) refl refl refl refl cat
 
 -- the runs of every structure follow each other from its highest bit down, and the bits of a primary subfield have the names of the subfields
 pub right-paper : (cat : ℕ) → T (right (printedOf cat))
@@ -90,39 +80,28 @@ some-octets cat = by-paper (λ its. T (someOctets its)) tt tt tt tt cat
 
 -- ---- the indicator
 
-by-indicator : (P : Structure → List Entry → Type 0) → P indicator048 printed048 → P indicator021 printed021 → P indicator007 printed007 → P noIndicator [] → (cat : ℕ) → P (indicatorOf cat) (printedOf cat)
-unfolding indicatorOf printedOf
-by-indicator P a b c d cat = go (eqb cat 48) (eqb cat 21) (eqb cat 7)
-  where
-    go : (x y z : Bool) → P (pick x indicator048 (pick y indicator021 (pick z indicator007 noIndicator))) (pick x printed048 (pick y printed021 (pick z printed007 [])))
-    go true y z = a
-    go false true z = b
-    go false false true = c
-    go false false false = d
-
 -- its runs follow each other, and its bits have the names of the items in their order
 pub right-indicator : (cat : ℕ) → T (adjacent 8 0 (indicatorOf cat .runs) && sameNames (runNames (indicatorOf cat .runs)) (entryNames (printedOf cat)))
 unfolding adjacent printed048 printed021 printed007
-right-indicator cat = by-indicator (λ s es. T (adjacent 8 0 (s .runs) && sameNames (runNames (s .runs)) (entryNames es))) tt tt tt tt cat
+right-indicator cat = by-category (λ s es its. T (adjacent 8 0 (s .runs) && sameNames (runNames (s .runs)) (entryNames es))) tt tt tt tt cat
 
 -- its spare places are those behind the last item
-pub spare-behind : (cat : ℕ) → spareOf cat ≡ 2 ^ (8 - length (printedOf cat)) - 1
-unfolding sparesOf printed048 printed021 printed007
-spare-behind cat = by-indicator (λ s es. sparesOf (s .runs) ≡ 2 ^ (8 - length es) - 1) refl refl refl refl cat
+pub spare-behind : (cat : ℕ) → spareOf cat ≡ 2 ^ (8 - itemsOf cat) - 1
+unfolding sparesOf cat048 cat021 cat007
+spare-behind cat = by-category (λ s es its. sparesOf (s .runs) ≡ 2 ^ (8 - length its) - 1) refl refl refl refl cat
 
 -- and those that are 0 in a field of the paper (codec: Meaning, HasLayout)
 pub spare-meant : (cat ind : ℕ) → (Clear ind (indicatorOf cat .runs) → bitsOf ind (8 - length (printedOf cat)) 1 ≡ 0) × (bitsOf ind (8 - length (printedOf cat)) 1 ≡ 0 → Clear ind (indicatorOf cat .runs))
 unfolding Clear bitsOf printed048 printed021 printed007
 spare-meant cat ind =
-    by-indicator (λ s es. (Clear ind (s .runs) → bitsOf ind (8 - length es) 1 ≡ 0) × (bitsOf ind (8 - length es) 1 ≡ 0 → Clear ind (s .runs)))
+    by-category (λ s es its. (Clear ind (s .runs) → bitsOf ind (8 - length es) 1 ≡ 0) × (bitsOf ind (8 - length es) 1 ≡ 0 → Clear ind (s .runs)))
     (λ q. q .0, λ e. (e, tt)) (λ q. mod-one (ind / 2 ^ 0), λ e. tt) (λ q. q .0, λ e. (e, tt)) (λ q. q .0, λ e. (e, tt)) cat
 
 -- so one comparison with its mask is the test of every spare place
 pub spare-places : (cat ind : ℕ) → ind < 256 → eqb (bitAnd ind (spareOf cat)) 0 ≡ noSpare (paperOf cat) ind
 spare-places cat ind h =
     let few : itemsOf cat ≤ 8 = few-items cat in
-    let same : length (printedOf cat) ≡ itemsOf cat = sym (length-items (printedOf cat)) ∙ ap length (made-paper cat) in
-    ap (λ m. eqb (bitAnd ind m) 0) (spare-behind cat ∙ ap (λ k. 2 ^ (8 - k) - 1) same) ∙ ap (λ m. eqb m 0) (and-mask ind (8 - itemsOf cat)) ∙ spare-bits ind (itemsOf cat) h (omega arith)
+    ap (λ m. eqb (bitAnd ind m) 0) (spare-behind cat) ∙ ap (λ m. eqb m 0) (and-mask ind (8 - itemsOf cat)) ∙ spare-bits ind (itemsOf cat) h (omega arith)
 
 -- documents 000 and 004 lay out M5N, M4E, RPC and ERR alike
 pub items-shared : drop 1 cat007 ≡ drop 1 cat048
