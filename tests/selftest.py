@@ -262,7 +262,7 @@ def spare_rows(cat):
 
 def same_spares(cat, page):
     """The rows of the category's table on the page, below its head; the count of them."""
-    found = page.partition(f"\n## Category {cat:03} ")[2].partition("\n## ")[0]
+    found = page.partition(f"\n## Category {cat:03}, ")[2].partition("\n## ")[0]
     cells = [[cell.strip() for cell in line[1:-1].split("|")] for line in found.splitlines() if line.startswith("| ")][1:]
     wrong = [pair for pair in zip_longest(cells, spare_rows(cat)) if pair[0] != pair[1]]
     assert not wrong, (cat, wrong)

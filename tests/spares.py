@@ -9,9 +9,10 @@ import sys
 from pathlib import Path
 from typing import NamedTuple
 
+from slots import CATEGORIES
+
 ROOT = Path(__file__).resolve().parent.parent
 PAGE = ROOT / "docs/SPARE.md"
-DOCUMENTS = {48: "000", 21: "003", 7: "004"}
 
 
 class Line(NamedTuple):
@@ -132,9 +133,10 @@ def table_row(document, line):
 def page():
     out = [INTRODUCTION]
     for cat, found in lines().items():
-        out.append(f"## Category {cat:03} (document {DOCUMENTS[cat]})\n")
+        edition, document, _ = CATEGORIES[cat]
+        out.append(f"## Category {cat:03}, edition {edition} (document {document})\n")
         out += ["| section | item | part or subfield | octets | mask | spare bits |", "|---|---|---|---|---|---|"]
-        out += [table_row(DOCUMENTS[cat], line) for line in found] + [""]
+        out += [table_row(document, line) for line in found] + [""]
     return "\n".join(out)
 
 
