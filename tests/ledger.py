@@ -36,7 +36,7 @@ PROMISES = [
     ("writer", "`write`"),
     ("desk", "`remove`, `replace`"),
     ("visitors", "`copy`"),
-    ("text", "`octet`, `word`, `decimal`, `signed`, `octets`, `line_end`, `pair`, `signed_pair`"),
+    ("text", "`octet`, `word`, `decimal`, `signed`, `octets`, `line_end`, `pair`, `signed_pair`, `word_pair`"),
     ("longest", "the longest sheet"),
     ("sheet", "`sheet`, `listed`"),
     ("words", "`word_at`, `number`, `signed`, `small`, `room`, `whole`"),

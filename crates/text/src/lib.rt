@@ -132,3 +132,13 @@ pub fn signed_pair(key: &[u8], z: i64, at: usize, buf: &mut [u8; 4096]) -> usize
     let end = signed(z, value, &mut *buf);
     line_end(end, &mut *buf)
 }
+
+// A line with a key and a word.
+pub fn word_pair(key: &[u8], value: &[u8], at: usize, buf: &mut [u8; 4096]) -> usize
+    ensures { λ r. ⌜ Types (keyLine (now (key .entry)) (now (value .entry))) (now (buf .entry)) at (now (buf .exit)) r ⌝ }
+{
+    let sign = word(key, at, &mut *buf);
+    let start = octet(b'=', sign, &mut *buf);
+    let end = word(value, start, &mut *buf);
+    line_end(end, &mut *buf)
+}

@@ -1,7 +1,7 @@
 -- Words of the sheet put into its buffer by place: what the code of each word promises, and how one goes behind another.
 use mathlib.Core.Path.{_≡_, refl, sym, ap, ap₂, _∙_, subst}
 use mathlib.Core.Bool.{Bool, true, false}
-use mathlib.Core.List.{List, [], _∷_, _++_}
+use mathlib.Core.List.{List, [], _∷_, _++_, append-assoc}
 use Prim.Native.Nat.{ℕ, zero, suc, _+_, _-_, _/_, _%_, _≤_, _<_}
 use native.Mathlib.Nat.{mod-eq-of-lt}
 use native.Mathlib.Numerals.{add-one}
@@ -159,6 +159,12 @@ signed-above (pos n) t a = a
 signed-above (negsuc n) t a = let e : _≡_ {A = ℕ} 0 1 = cc in absurd (omega arith)
 
 -- ---- a line: key, sign, value, line feed
+
+-- a name and a further name are one key
+pub types-key : (name more value : List ℕ) {l m q : List ℕ} {at next last : ℕ}
+    → Types name l at m next → Types (keyLine more value) m next q last → Types (keyLine (name ++ more) value) l at q last
+unfolding keyLine
+types-key name more value a b = types-as (sym (append-assoc name more _)) (types-behind a b)
 
 pub types-line : (key value : List ℕ) {l m q u v : List ℕ} {at sign start end next : ℕ}
     → Types key l at m sign → Types (61 ∷ []) m sign q start → Types value q start u end → Types (10 ∷ []) u end v next → Types (keyLine key value) l at v next
