@@ -1,6 +1,7 @@
 -- 01, 'Octets tried at each edge': the rows marked P, the worked edits and the angles, computed from the definitions; and beside them, in the same form,
 -- rows that show the order of checks of the other operations.
 use mathlib.Core.Path.{_≡_, refl}
+use mathlib.Core.Bool.{Bool, true, false}
 use mathlib.Core.List.{List, [], _∷_, map}
 use Prim.Native.Nat.{ℕ}
 use lib.IntN.{ℤ, pos, negsuc}
@@ -33,6 +34,7 @@ use Rattle.scope.specs.Views.{isItem, present, standing, viewIn, viewOf,
 use Rattle.scope.specs.Desk.{listed, afresh, editIn, editOf}
 use Rattle.scope.specs.Visitors.{without, copyIn, copyOf}
 use Rattle.scope.specs.Angle.{rounded, udegOf}
+use Rattle.scope.specs.Pressure.{eqZ, stands}
 
 -- ---- reading
 
@@ -207,3 +209,32 @@ visits-copied = refl
 pub angles : map udegOf (pos 1 ∷ pos 16_384 ∷ negsuc 16_383 ∷ pos 4_194_304 ∷ []) ≡ pos 21 ∷ pos 351_563 ∷ negsuc 351_562 ∷ pos 90_000_000 ∷ []
 unfolding udegOf rounded
 angles = refl
+
+-- ---- 02, Ask 1: "BPS 0 means 800 hPa or less, and 4,095 means 1209.5 hPa or more". A number, a setting in tenths of hPa, and whether the one can stand for the
+-- other, at each end and beside it
+
+pub record Setting : Type 0 where
+  pub number : ℤ
+  pub tenths : ℤ
+  pub among : Bool
+
+unfoldable pub settings : List Setting
+settings =
+    record { number = pos 0; tenths = negsuc 0; among = true }
+    ∷ record { number = pos 0; tenths = pos 7_999; among = true }
+    ∷ record { number = pos 0; tenths = pos 8_000; among = true }
+    ∷ record { number = pos 0; tenths = pos 8_001; among = false }
+    ∷ record { number = pos 1; tenths = pos 8_000; among = false }
+    ∷ record { number = pos 1; tenths = pos 8_001; among = true }
+    ∷ record { number = pos 1; tenths = pos 8_002; among = false }
+    ∷ record { number = pos 4_094; tenths = pos 12_093; among = false }
+    ∷ record { number = pos 4_094; tenths = pos 12_094; among = true }
+    ∷ record { number = pos 4_094; tenths = pos 12_095; among = false }
+    ∷ record { number = pos 4_095; tenths = pos 12_094; among = false }
+    ∷ record { number = pos 4_095; tenths = pos 12_095; among = true }
+    ∷ record { number = pos 4_095; tenths = pos 12_096; among = true }
+    ∷ []
+
+pub settings-stand : map (λ (s : Setting). stands (s .number) (s .tenths)) settings ≡ map (λ (s : Setting). s .among) settings
+unfolding settings stands eqZ
+settings-stand = refl

@@ -7,3 +7,4 @@ pub mod Edits
 pub mod Alike
 pub mod Without
 pub mod Visitors
+pub mod Pressure

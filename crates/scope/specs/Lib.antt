@@ -1,6 +1,6 @@
 -- What each operation of 01 answers and promises, a file for each of its sections: reading, writing, views and the
 -- choice, the desk, the angle, the sheet; where the items stand; and the octets of 01 computed. Of 02 the visitors' copy,
--- and when two fields are alike. What follows from them stands under Laws.
+-- when two fields are alike, and the pressure as a set. What follows from them stands under Laws.
 pub mod Reading
 pub mod Outputs
 pub mod Writing
@@ -10,6 +10,7 @@ pub mod Desk
 pub mod Alike
 pub mod Visitors
 pub mod Angle
+pub mod Pressure
 pub mod Sheet
 pub mod Sheets
 pub mod Edges
