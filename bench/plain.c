@@ -1065,6 +1065,14 @@ static char *show_007(char *t, const int32_t *record)
     return t;
 }
 
+/* The settings that a number stands for beside its tenths: at an end all beyond it too. */
+static char *show_sense(char *t, int32_t n)
+{
+    if (n == 0) return put(t, "BPS.sense=atmost\n", 17);
+    if (n == 4095) return put(t, "BPS.sense=atleast\n", 18);
+    return put(t, "BPS.sense=equal\n", 16);
+}
+
 static char *show_021(char *t, const int32_t *record)
 {
     unsigned items = (unsigned)record[1];
@@ -1072,6 +1080,7 @@ static char *show_021(char *t, const int32_t *record)
     if (items & 0x80) {
         LINE("BPS", n[0]);
         LINE("BPS.tenths", 8000 + n[0]);
+        t = show_sense(t, n[0]);
     }
     if (items & 0x40) t = show_selh(t, n + 1);
     if (items & 0x20) t = show_nav(t, n + 4);
@@ -1130,7 +1139,7 @@ static char *show_field(char *t, uint8_t cat, const uint8_t *field, size_t n)
 
 uint64_t plain_sheet(const uint8_t *input, size_t n, uint8_t *out, size_t room)
 {
-    char text[1024], *t = text; /* the longest sheet has 971 octets */
+    char text[1024], *t = text; /* the longest sheet has 989 octets */
     if (n == 0) {
         t = show_refusal(put(t, "cat=none\n", 9), refused(SHORT_SLICE, 0));
     } else {

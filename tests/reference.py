@@ -269,12 +269,16 @@ def shown(item, count, numbers):
     return there + [not parts or numbers[k] == 1 for k, (_, _, defined) in enumerate(subs) for _ in defined]
 
 
+# 02, Ask 1, by document 003, 2.3: a number at an end stands for what lies beyond it too
+SENSES = {0: "atmost", 4095: "atleast"}
+
+
 def number_lines(key, z):
     lines = [f"{key}={z}"]
     if key.endswith((".LAT", ".LON")):
         lines.append(f"{key}.udeg={udeg(z)}")
     if key == "BPS":
-        lines.append(f"BPS.tenths={8000 + z}")
+        lines += [f"BPS.tenths={8000 + z}", f"BPS.sense={SENSES.get(z, 'equal')}"]
     return lines
 
 

@@ -3,6 +3,7 @@
 and the papers' data of crates/papers, as tests/slots.py takes it, and docs/SPARE.md held against the transcription of the tests. And that each public function
 has its wrong programs, as tests/ledger.py counts them."""
 from itertools import zip_longest
+from math import inf
 
 import copies
 import ledger
@@ -269,6 +270,24 @@ def same_spares(cat, page):
     return len(cells)
 
 
+def pressed(n):
+    """The input with BPS alone."""
+    return h("15 04 80") + n.to_bytes(2, "big")
+
+
+def said(n):
+    """The lowest and the highest setting, in tenths of hPa, that the sheet of a number says."""
+    lines = dict(line.split("=") for line in sheet(pressed(n)).splitlines())
+    tenths = int(lines["BPS.tenths"])
+    return {"atmost": (-inf, tenths), "atleast": (tenths, inf), "equal": (tenths, tenths)}[lines["BPS.sense"]]
+
+
+def one_number_each():
+    """From 800 hPa or less to 1209.5 hPa or more, each set begins right behind the one before: every setting is in exactly one."""
+    sets = [said(n) for n in range(4096)]
+    return sets[0] == (-inf, 8000) and sets[-1] == (12095, inf) and all(low == high + 1 for (_, high), (low, _) in zip(sets, sets[1:]))
+
+
 def longest(cat):
     return 2 + sum(sum(o for o, _ in parts) + sum(o for _, o, _ in subs) for _, parts, subs in PAPERS[cat])
 
@@ -316,4 +335,8 @@ assert view(48, BASE, 5) == ("ok", 3, 3, h("01 00 00"))
 assert choose(48, BASE, h("03 20 04"), 3) == ("ok", 2, 2, 1, h("04"))
 assert sheet(h("30 06 28 06 01 00 00")) == "cat=48\nlen=6\nitems=M4E,ERR\nM4E=3\nERR=65536\nend=ok\n"
 assert [udeg(n) for n in (1, 16384, -16384, 4194304)] == [21, 351563, -351563, 90000000]
-print(f"{checks + 9} passed, 0 failed")
+for n, sense in ((0, "atmost"), (1, "equal"), (4094, "equal"), (4095, "atleast")):
+    assert sheet(pressed(n)) == f"cat=21\nlen=4\nitems=BPS\nBPS={n}\nBPS.tenths={8000 + n}\nBPS.sense={sense}\nend=ok\n"
+    checks += 1
+assert one_number_each()
+print(f"{checks + 10} passed, 0 failed")

@@ -17,7 +17,7 @@ from reads import (
 from reference import keys, lay_item, sheet
 
 RANDOM = 30  # fields of each random kind and category
-LONGEST = {48: 959, 21: 971, 7: 571}  # the octets of each category's longest sheet
+LONGEST = {48: 959, 21: 989, 7: 571}  # the octets of each category's longest sheet
 WORKED = bytes.fromhex("30 06 28 06 01 00 00")
 HALF = 16384  # with a whole number of 32,768 beside it, its angle ends in half a millionth
 
@@ -93,7 +93,7 @@ def both_angles(cat):
 
 
 def pressures(cat):
-    """BPS.tenths at both ends and where it gets a digit more."""
+    """BPS.tenths and BPS.sense at both ends and beside them, and where the tenths get a digit more."""
     yield from with_one(cat, lambda n: [0, 1, 1999, 2000, 4094, 4095] if n[0] == "BPS" else [])
 
 
@@ -235,4 +235,5 @@ def covered():
     assert places[None, 1] == {0}
     assert {1, 2, 255, 256, 257, 300} <= {len(given) for given in made}
     assert {"351563", "-351563", "21", "90000000"} <= seen[48, "MD5.POS.LAT.udeg"] and "-180000000" in seen[48, "M5N.POS.LON.udeg"]
-    assert {"8000", "8001", "9999", "10000", "12095"} <= seen[21, "BPS.tenths"]
+    assert {"8000", "8001", "9999", "10000", "12094", "12095"} <= seen[21, "BPS.tenths"]
+    assert seen[21, "BPS.sense"] == {"atmost", "equal", "atleast"}

@@ -20,7 +20,8 @@ CATEGORIES = {
     48: ("1.9", "000", ""),
     21: ("1.5", "003", """
 - `BPS`: the pressure is 800 hPa plus the number times 0.1 hPa. 0 stands for all below 800 hPa too,
-  and 4,095 for all above 1209.5 hPa.
+  and 4,095 for all above 1209.5 hPa: on the sheet `BPS.sense` is `atmost` for 0, `atleast` for 4,095
+  and `equal` between.
 - `SelH.SelH`: document 003 prints no unit, and 01 derives no degrees from it.
 - `GAO.Lateral`: bit 8 is the direction, 0 left and 1 right of the centre line. So the number as a
   whole is not a count of 2 m.

@@ -3,7 +3,7 @@ use mathlib.Core.Bool.{Bool, true}
 use mathlib.Core.List.{List, [], _∷_, _++_}
 use Prim.Native.Nat.{ℕ, zero, suc, _+_, _-_, _/_, _%_}
 use lib.Dec.{ltb, eqb}
-use lib.IntN.{ℤ, pos, negsuc, _+ℤ_}
+use lib.IntN.{ℤ, pos, negsuc}
 use lib.ListN.{length, take, drop}
 use Rattle.codec.specs.Pick.{pick}
 use Rattle.codec.specs.Line.{Line, Held, count}
@@ -15,6 +15,7 @@ use Rattle.papers.specs.Names.{text, Key, hidden, shown, angle, pressure, Named
 use Rattle.papers.specs.Papers.{paperOf}
 use Rattle.layout.specs.declared.Answer.{Answer}
 use Rattle.scope.specs.Angle.{udegOf}
+use Rattle.scope.specs.Pressure.{tenthsOf, senseOf}
 use Rattle.scope.specs.Reading.{fieldOf}
 use Rattle.scope.specs.Outputs.{withRoom, Leaves}
 
@@ -40,13 +41,17 @@ signedDecimal (negsuc n) = text "-" ++ decimal (suc n)
 unfoldable pub keyLine : List ℕ → List ℕ → List ℕ
 keyLine key value = key ++ (text "=" ++ (value ++ (10 ∷ [])))
 
--- "After each latitude and each longitude comes a line with `.udeg` added to the key .. After BPS comes `BPS.tenths`, 8,000 plus the number"
+-- "After BPS comes `BPS.tenths`" (01); "After `BPS.tenths` print `BPS.sense`" (02, Ask 1): one never stands without the other
+abbrev pub pressureText : List ℕ → ℤ → List ℕ
+pressureText k z = keyLine (k ++ text ".tenths") (signedDecimal (tenthsOf z)) ++ keyLine (k ++ text ".sense") (senseOf z)
+
+-- "After each latitude and each longitude comes a line with `.udeg` added to the key"
 unfoldable pub numberText : Key → ℤ → List ℕ
 unfolding keyLine signedDecimal
 numberText hidden z = []
 numberText (shown k) z = keyLine k (signedDecimal z)
 numberText (angle k) z = keyLine k (signedDecimal z) ++ keyLine (k ++ text ".udeg") (signedDecimal (udegOf z))
-numberText (pressure k) z = keyLine k (signedDecimal z) ++ keyLine (k ++ text ".tenths") (signedDecimal (pos 8_000 +ℤ z))
+numberText (pressure k) z = keyLine k (signedDecimal z) ++ pressureText k z
 
 unfoldable pub numbersText : List Key → List ℤ → List ℕ
 unfolding numberText

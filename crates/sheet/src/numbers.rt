@@ -1,5 +1,5 @@
 // The numbers of one chain part or subfield, each with its key and what is derived from it.
-// Promises: `group` types the text of the numbers that stand in the slots, one for each key of the group. Stands on layout, angle and text.
+// Promises: `group` types the text of the numbers that stand in the slots, one for each key of the group. Stands on layout, angle, pressure and text.
 ghost use mathlib.Core.Path.{_≡_};
 ghost use mathlib.Core.List.{_++_};
 ghost use Prim.Native.Nat.{_+_, _-_, _*_, _≤_};
@@ -103,12 +103,12 @@ fn altitude_lines(name: &[u8], a: Altitude, at: usize, buf: &mut [u8; 4096]) -> 
     number(name, b".GA", a.ga, next, &mut *buf)
 }
 
-// A barometric setting, and the pressure that it stands for: 8,000 tenths of hPa and the number.
+// A barometric setting, and the pressure that it stands for.
 fn pressure_lines(name: &[u8], n: i32, at: usize, buf: &mut [u8; 4096]) -> usize
     ensures { λ r. ⌜ Types (numberText (pressure (now (name .entry))) n) (now (buf .entry)) at (now (buf .exit)) r ⌝ }
 {
     let next = alone(name, n, at, &mut *buf);
-    pair(name, b".tenths", 8_000 + n as i64, next, &mut *buf)
+    pressure::lines(name, n, next, &mut *buf)
 }
 
 // The numbers that a marked word stands for, from a slot on.

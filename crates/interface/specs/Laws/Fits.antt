@@ -250,7 +250,7 @@ pub sheet-fits : (s : List ℕ) → Octets s → (room : ℕ) → FitAnswer (ans
 unfolding withRoom answerOf placeOf lengthOf
 sheet-fits s o room = go (leb (length (sheetOf s)) room)
   where
-    few : length (sheetOf s) ≤ 971
+    few : length (sheetOf s) ≤ 989
     few = sheet-longest s o
 
     go : (b : Bool) → FitAnswer (answerOf (pick b (accepted (sheetOf s)) (refused 11 0)))

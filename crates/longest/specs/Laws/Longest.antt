@@ -1,4 +1,4 @@
--- The longest sheet has 971 octets: that of a full field of category 21. The longest of category 48 has 959, that of category 7 has 571.
+-- The longest sheet has 989 octets: that of a full field of category 21. The longest of category 48 has 959, that of category 7 has 571.
 use mathlib.Core.Path.{_≡_, refl, sym, subst}
 use mathlib.Core.Bool.{Bool, true, false, _&&_}
 use mathlib.Core.List.{List, [], _∷_, _++_, map, append-assoc, append-nil}
@@ -32,6 +32,7 @@ use Rattle.papers.specs.Names.{text, Key, Named, names048, names021, names007, 
 use Rattle.papers.specs.Papers.{known, paperOf, longestOf}
 use Rattle.papers.specs.Laws.Papers.{by-paper, good-paper}
 use Rattle.scope.specs.Angle.{udegOf}
+use Rattle.scope.specs.Pressure.{eqZ, senseOf}
 use Rattle.scope.specs.Reading.{fieldOf}
 use Rattle.scope.specs.Sheet.{decimal, signedDecimal, keyLine, numbersText, linesThere, linesText, chainText, itemText, rowText, itemsText, refusalText, sheetOf}
 use Rattle.text.specs.Laws.Decimals.{decimal-most, decimal-longer}
@@ -312,5 +313,5 @@ fullest =
 
 -- their sheets have as many octets
 pub some-as-long : map {B = Bool × ℕ} (λ s. (areBytes s, length (sheetOf s))) fullest ≡ (true, 959) ∷ (true, longestSheet) ∷ (true, 571) ∷ []
-unfolding fullest sheetOf udegOf namesOf names048 names021 names007 linesOf fieldOf known paperOf cat048 cat021 cat007 lenOf readFrame body indicator allZero row uncons item chain beside subfields isOne lineCodec cells number toNum toSigned limit widths count clear nums inLimits cut join
+unfolding fullest sheetOf udegOf senseOf eqZ namesOf names048 names021 names007 linesOf fieldOf known paperOf cat048 cat021 cat007 lenOf readFrame body indicator allZero row uncons item chain beside subfields isOne lineCodec cells number toNum toSigned limit widths count clear nums inLimits cut join
 some-as-long = refl

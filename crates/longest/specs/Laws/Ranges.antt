@@ -7,14 +7,16 @@ use native.Mathlib.Nat.{le-trans, le-max-left, le-max-right}
 use native.Mathlib.Omega.{arith}
 use borrow.Author.Tests.{ltb-true, ltb-false}
 use lib.Dec.{T, ltb, leb→le, le→leb, ltb→lt}
-use lib.IntN.{ℤ, pos, negsuc, negℤ, subℕ, _+ℤ_}
+use lib.IntN.{ℤ, pos, negsuc, negℤ, subℕ}
 use lib.ListN.{length, length-append}
 use lib.Signed.{leZ}
+use Rattle.codec.specs.Pick.{pick}
 use Rattle.codec.specs.Signed.{inSigned}
 use Rattle.codec.specs.Line.{Kind, plain, signed, limited, Piece, spare, num, inNum, limit, fitNums, inLimits}
 use Rattle.codec.specs.Laws.Tests.{and-l, and-r}
 use Rattle.papers.specs.Names.{text, Key, hidden, shown, angle, pressure}
 use Rattle.scope.specs.Angle.{rounded, udegOf}
+use Rattle.scope.specs.Pressure.{eqZ, tenthsOf, senseOf}
 use Rattle.scope.specs.Sheet.{decimal, signedDecimal, keyLine, numberText, numbersText}
 use Rattle.text.specs.Laws.Decimals.{decimal-longer}
 
@@ -74,11 +76,25 @@ minus-falls k a b h = go (ltb k a) (ltb k b) refl refl
     go false true e f = absurd (omega (arith, ltb-false k a e, ltb-true k b f))
     go false false e f = le→leb (k - a) (k - b) (omega arith)
 
-pressure-rises : (y z : ℤ) → T (leZ y z) → T (leZ (pos 8_000 +ℤ y) (pos 8_000 +ℤ z))
+pressure-rises : (y z : ℤ) → T (leZ y z) → T (leZ (tenthsOf y) (tenthsOf z))
 pressure-rises (pos m) (pos n) h = le→leb (8_000 + m) (8_000 + n) (omega (arith, leb→le m n h))
 pressure-rises (pos m) (negsuc n) h = absurd h
 pressure-rises (negsuc m) (pos n) h = minus-below 8_000 (suc m) (8_000 + n) (omega arith)
 pressure-rises (negsuc m) (negsuc n) h = minus-falls 8_000 (suc m) (suc n) (omega (arith, leb→le n m h))
+
+-- ---- its sense is no number: which word it is says nothing of the ends, and none is longer than the longest of the three
+
+abbrev longestSense : ℕ
+longestSense = length (text "atleast")
+
+sense-most : (z : ℤ) → length (senseOf z) ≤ longestSense
+unfolding senseOf
+sense-most z = go (eqZ z (pos 0)) (eqZ z (pos 4_095))
+  where
+    go : (a b : Bool) → length (pick a (text "atmost") (pick b (text "atleast") (text "equal"))) ≤ longestSense
+    go true b = omega arith
+    go false true = omega arith
+    go false false = omega arith
 
 -- ---- the ends of a number of w bits
 
@@ -115,7 +131,7 @@ unfolding longer
 mostNumber hidden lo hi = 0
 mostNumber (shown k) lo hi = mostLine k (longer lo hi)
 mostNumber (angle k) lo hi = mostLine k (longer lo hi) + mostLine (k ++ text ".udeg") (longer (udegOf lo) (udegOf hi))
-mostNumber (pressure k) lo hi = mostLine k (longer lo hi) + mostLine (k ++ text ".tenths") (longer (pos 8_000 +ℤ lo) (pos 8_000 +ℤ hi))
+mostNumber (pressure k) lo hi = mostLine k (longer lo hi) + (mostLine (k ++ text ".tenths") (longer (tenthsOf lo) (tenthsOf hi)) + mostLine (k ++ text ".sense") longestSense)
 
 -- the lines of all numbers of some pieces; a spare piece has no key
 unfoldable pub mostNumbers : List Key → List Piece → ℕ
@@ -146,7 +162,9 @@ number-most (angle key) lo z hi h k =
     (signed-line (key ++ text ".udeg") (udegOf lo) (udegOf z) (udegOf hi) (angle-rises lo z h) (angle-rises z hi k))
 number-most (pressure key) lo z hi h k =
     append-most (keyLine key (signedDecimal z)) _ (signed-line key lo z hi h k)
-    (signed-line (key ++ text ".tenths") (pos 8_000 +ℤ lo) (pos 8_000 +ℤ z) (pos 8_000 +ℤ hi) (pressure-rises lo z h) (pressure-rises z hi k))
+    (append-most (keyLine (key ++ text ".tenths") (signedDecimal (tenthsOf z))) _
+    (signed-line (key ++ text ".tenths") (tenthsOf lo) (tenthsOf z) (tenthsOf hi) (pressure-rises lo z h) (pressure-rises z hi k))
+    (line-most (key ++ text ".sense") (senseOf z) (sense-most z)))
 
 pub numbers-most : (ks : List Key) (ps : List Piece) (zs : List ℤ) → T (fitNums ps zs) → T (inLimits ps zs) → length (numbersText ks zs) ≤ mostNumbers ks ps
 unfolding numbersText mostNumbers fitNums inLimits

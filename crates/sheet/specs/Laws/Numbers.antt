@@ -1,45 +1,23 @@
 -- The lines of one number, of a position, an altitude and a pressure.
 use mathlib.Core.Path.{_≡_, refl, sym, ap, ap₂, _∙_}
-use mathlib.Core.Bool.{Bool, true, false, cond}
+use mathlib.Core.Bool.{Bool, true, false}
 use mathlib.Core.List.{List, [], _∷_, _++_, append-assoc, append-nil}
-use Prim.Native.Nat.{ℕ, suc, _+_, _-_, _≤_, _<_}
+use Prim.Native.Nat.{ℕ, _+_, _≤_, _<_}
 use native.Mathlib.Omega.{arith}
 use borrow.Author.Tests.{ne-eqb, lt-ltb, le-ltb}
 use lib.Dec.{ltb, eqb}
-use lib.IntN.{ℤ, pos, negsuc, _+ℤ_}
+use lib.IntN.{ℤ}
 use lib.ListN.{length}
-use lib.Signed.{mag}
-use mir.Syntax.{w32, w64}
-use mir.Val.{SFits}
 use Rattle.codec.specs.Pick.{pick}
 use Rattle.papers.specs.Names.{text, Key, hidden, shown, angle, pressure}
 use Rattle.layout.specs.Record.{numberAt}
 use Rattle.scope.specs.Angle.{udegOf}
-use Rattle.scope.specs.Sheet.{keyLine, signedDecimal, numberText}
+use Rattle.scope.specs.Sheet.{keyLine, signedDecimal, pressureText, numberText}
 use Rattle.text.specs.Typing.{Types}
 use Rattle.text.specs.Laws.Typing.{types-as, types-behind, types-none}
 use Rattle.sheet.specs.Keys.{markIs, meant, slotsIn, keyed}
 
--- ---- the sum of a pressure
-
-tenths-size : (z : ℤ) → mag (pos 8_000 +ℤ z) ≤ 8_000 + mag z
-tenths-size (pos n) = omega arith
-tenths-size (negsuc n) = go (ltb 8_000 (suc n))
-  where
-    go : (t : Bool) → mag (cond t (negsuc (suc n - suc 8_000)) (pos (8_000 - suc n))) ≤ 8_000 + n
-    go true = omega arith
-    go false = omega arith
-
-pub tenths-fit : (z : ℤ) → SFits w32 z → SFits w64 (pos 8_000 +ℤ z)
-tenths-fit z f = let g : mag z < 2_147_483_648 = f .sfits in record { sfits = omega (arith, tenths-size z) }
-
 -- ---- keys
-
--- a name and a further name are one key
-pub pair-key : (name more : List ℕ) (z : ℤ) {l m q : List ℕ} {at next last : ℕ}
-    → Types name l at m next → Types (keyLine more (signedDecimal z)) m next q last → Types (keyLine (name ++ more) (signedDecimal z)) l at q last
-unfolding keyLine
-pair-key name more z a b = types-as (sym (append-assoc name more _)) (types-behind a b)
 
 pub alone-key : (name : List ℕ) (z : ℤ) {l m : List ℕ} {at next : ℕ} → Types (keyLine (name ++ []) (signedDecimal z)) l at m next → Types (numberText (shown name) z) l at m next
 unfolding numberText
@@ -59,7 +37,7 @@ unfolding numberText
 altitude-key name more z e a = types-as (ap (λ x. keyLine (name ++ more) (signedDecimal x)) e) a
 
 pub pressure-keys : (name : List ℕ) (z : ℤ) {l m q : List ℕ} {at next last : ℕ}
-    → Types (numberText (shown name) z) l at m next → Types (keyLine (name ++ text ".tenths") (signedDecimal (pos 8_000 +ℤ z))) m next q last → Types (numberText (pressure name) z) l at q last
+    → Types (numberText (shown name) z) l at m next → Types (pressureText name z) m next q last → Types (numberText (pressure name) z) l at q last
 unfolding numberText
 pressure-keys name z a b = types-behind a b
 
