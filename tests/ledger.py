@@ -26,7 +26,7 @@ PROMISES = [
     ("layout", "`is_known`, `items_of`, `spare_of`, `longest_of`, `is_item`, `number_at`, `which_number`"),
     ("scope", "01's operations, the visitors' copy and the pressure as definitions: the edge octets and sheets computed from them"),
     ("outputs", "`deliver`"),
-    ("demands", "the three demands, what is asked of the visitors' copy and of two members, and that the program which `scope` defines meets them"),
+    ("demands", "the three demands, what is asked of the visitors' copy, of two members and of the pressure, and that the program which `scope` defines meets them"),
     ("lengths", "`format_of`"),
     ("shapes", "`shape_at`"),
     ("spots", "`spot_at`, `spot_of`"),

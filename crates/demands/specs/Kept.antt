@@ -12,6 +12,7 @@ pub mod Reads
 pub mod Edits
 pub mod Visitors
 pub mod Members
+pub mod Pressure
 
 pub kept : Demands program
 kept = record { one = demand1; two = demand2; three = demand3 }

@@ -3,6 +3,7 @@ pub mod Terms
 pub mod Demands
 pub mod Visitors
 pub mod Members
+pub mod Pressure
 pub mod Defined
 pub mod Kept
 pub mod Angles
