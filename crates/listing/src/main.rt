@@ -15,7 +15,7 @@ const MOST: usize = 256;
 // Instead of a count of octets: a read has failed.
 const FAILED: usize = MOST + 1;
 
-// Room for every sheet; the longest has 989 octets.
+// Room for every sheet: the contract of `listed` asks for it.
 const ROOM: usize = 1024;
 
 fn main() {

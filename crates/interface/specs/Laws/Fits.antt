@@ -250,9 +250,6 @@ pub sheet-fits : (s : List ℕ) → Octets s → (room : ℕ) → FitAnswer (ans
 unfolding withRoom answerOf placeOf lengthOf
 sheet-fits s o room = go (leb (length (sheetOf s)) room)
   where
-    few : length (sheetOf s) ≤ 989
-    few = sheet-longest s o
-
     go : (b : Bool) → FitAnswer (answerOf (pick b (accepted (sheetOf s)) (refused 11 0)))
-    go true = (omega arith, omega (arith, few))
+    go true = (omega arith, omega (arith, sheet-longest s o))
     go false = (omega arith, omega arith)

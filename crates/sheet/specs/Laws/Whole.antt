@@ -154,7 +154,6 @@ pub record Standing (xs m : List ℕ) (end : ℕ) : Type 0 where
 
 pub sheet-stands : (s : List ℕ) → Octets s → {l m : List ℕ} {end : ℕ} → length l ≡ 4_096 → Types (sheetOf s) l 0 m end → Standing (sheetOf s) m end
 sheet-stands s o {l} {m} {end} k a =
-    let few : length (sheetOf s) ≤ 989 = sheet-longest s o in
-    let f = typed-front (sheetOf s) (omega arith) k a in
+    let f = typed-front (sheetOf s) (omega (arith, sheet-longest s o)) k a in
     let e : end ≡ length (take end m) = f .0 ∙ ap length (sym (f .1)) in
     record { text-is = f .1; within = omega (arith, e, length-take end m); whole = e }
