@@ -23,7 +23,7 @@ number-few (pos t) = go (leb 12_095 t) refl
     go true e = omega arith
     go false e = omega (arith, leb-false 12_095 t e)
 
--- of the tests by which `stands` chooses, a and b, and of that of `numberOf`, c
+-- the test of each kind of number is whether the setting's number is n; c and d are what the tests of t say
 module _ (n t : ℕ) (h : n ≤ 4_095) where
   lowest : (c d : Bool) → n ≡ 0 → leb 12_095 t ≡ c → leb t 8_000 ≡ d → leb t 8_000 ≡ eqb n (pick c 4_095 (t - 8_000))
   lowest true d e f g = lt-leb t 8_000 (omega (arith, leb-true 12_095 t f)) ∙ sym (ne-eqb n 4_095 (λ x. omega arith))
@@ -67,7 +67,7 @@ one-number m n t h k a b = of m h a ∙ sym (of n k b)
     of : (n : ℕ) → n ≤ 4_095 → T (stands (pos n) t) → n ≡ numberOf t
     of n h a = eqb→eq n (numberOf t) (subst T (stands-number n t h) a)
 
--- and what its `tenths` say is among a number's own
+-- and a number's own `tenths` are among its settings
 pub own-tenths : (n : ℕ) → n ≤ 4_095 → T (stands (pos n) (pos (8_000 + n)))
 unfolding numberOf
 own-tenths n h = subst T (sym (stands-number n (pos (8_000 + n)) h ∙ ap (eqb n) (sym (back (leb 12_095 (8_000 + n)) refl)))) (eqb-refl n)
