@@ -157,7 +157,7 @@ def wrong_programs(crate, edits):
             line = source.read_text().partition(old)[0].count("\n")
             inside = [name for item, name, _, at, _ in items if item == file[1] and at <= line]
             touched.setdefault(inside[-1], []).append(edit.stem)
-    return {name: [edit for item in sorted(reached(name, named)) for edit in touched.get(item, [])]
+    return {name: list(dict.fromkeys(edit for item in sorted(reached(name, named)) for edit in touched.get(item, [])))
             for _, name, public, *_ in items if public}
 
 

@@ -1,4 +1,4 @@
--- The words of Demands, and where each is defined.
+-- The words of Demands and of the pages beside it, and where each is defined.
 
 -- of the logic and its library: equality, tests, numbers, lists
 pub use mathlib.Core.Path.{_≡_}
@@ -9,6 +9,7 @@ pub use Prim.Native.Nat.{ℕ, zero, suc, _+_, _-_, _*_, _^_, _≤_, _<_}
 pub use lib.Dec.{T, leb, eqb}
 pub use lib.IntN.{ℤ, pos}
 pub use lib.ListN.{length, take, drop, set, replicate}
+pub use lib.Signed.{leZ, _≤ℤ_}
 -- one of two by a test
 pub use Rattle.codec.specs.Pick.{pick}
 -- every element is below 256; LEN, the first octet of a field; a string that has LEN and all that LEN counts
@@ -32,7 +33,7 @@ pub use Rattle.papers.specs.Papers.{numbered, known, printedOf, itemsOf}
 -- answer, a view, a choice between two fields
 pub use Rattle.papers.specs.Papers.{SLOTS}
 pub use Rattle.layout.specs.declared.Record.{Record}
-pub use Rattle.layout.specs.Record.{allParts, allNumbers}
+pub use Rattle.layout.specs.Record.{allParts, allNumbers, numberAt}
 pub use Rattle.layout.specs.declared.Reading.{Reading}
 pub use Rattle.layout.specs.declared.Answer.{Answer}
 pub use Rattle.layout.specs.declared.Answer.the-variants.{Accepted, Refused}
@@ -41,9 +42,12 @@ pub use Rattle.layout.specs.declared.View.the-variants.{Shown, Hidden}
 pub use Rattle.layout.specs.declared.Which.{Which}
 pub use Rattle.layout.specs.declared.Which.the-variants.{Neither, Base, Correction}
 pub use Rattle.layout.specs.declared.Choice.{Choice}
--- the record of a refused field; the sheet's text; the angle that is nearest, halves away from zero
+-- the record of a refused field; the sheet's text, a line of it, and the letters and decimals of a line; whether a number
+-- can stand for a barometric setting; the angle that is nearest, halves away from zero
 pub use Rattle.scope.specs.Reading.{noRecord}
-pub use Rattle.scope.specs.Sheet.{sheetOf}
+pub use Rattle.scope.specs.Sheet.{sheetOf, keyLine, decimal, signedDecimal}
+pub use Rattle.papers.specs.Names.{text}
+pub use Rattle.scope.specs.Pressure.{stands}
 pub use Rattle.demands.specs.Angles.{Nearest}
 
 -- ---- fields of a category

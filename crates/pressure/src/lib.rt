@@ -4,7 +4,7 @@ ghost use Rattle.scope.specs.Pressure.{senseOf};
 ghost use Rattle.scope.specs.Sheet.{keyLine, pressureText};
 ghost use Rattle.text.specs.Typing.{Types};
 
-// Which settings they are: a number at an end stands for all beyond it too (document 003, 2.3).
+// The line that says which settings the number stands for: at an end all beyond it too (document 003, 2.3).
 fn sense(key: &[u8], n: i64, at: usize, buf: &mut [u8; 4096]) -> usize
     ensures { λ r. ⌜ Types (keyLine (now (key .entry)) (senseOf n)) (now (buf .entry)) at (now (buf .exit)) r ⌝ }
 {
@@ -21,8 +21,8 @@ pub fn lines(name: &[u8], n: i32, at: usize, buf: &mut [u8; 4096]) -> usize
 {
     let number = n as i64;
     let tenths = 8_000 + number;
-    let first = text::word(name, at, &mut *buf);
-    let next = text::signed_pair(b".tenths", tenths, first, &mut *buf);
-    let second = text::word(name, next, &mut *buf);
-    sense(b".sense", number, second, &mut *buf)
+    let tenths_at = text::word(name, at, &mut *buf);
+    let next = text::signed_pair(b".tenths", tenths, tenths_at, &mut *buf);
+    let sense_at = text::word(name, next, &mut *buf);
+    sense(b".sense", number, sense_at, &mut *buf)
 }

@@ -5,8 +5,8 @@ use mathlib.Core.List.{List, [], _∷_, _++_, append-assoc, append-nil}
 use Prim.Native.Nat.{ℕ, suc, _+_, _≤_}
 use native.Mathlib.Nat.{le-antisymm}
 use native.Mathlib.Omega.{arith}
-use borrow.Author.Tests.{eqb-true}
-use lib.Dec.{T, eqb, leb→le, le→leb, eqb→eq, eqb-refl}
+use borrow.Author.Tests.{eqb-true, eqb-false}
+use lib.Dec.{T, eqb, leb→le, le→leb, eqb-refl}
 use lib.IntN.{ℤ, pos, negsuc}
 use lib.ListN.{length, drop, getD}
 use lib.Signed.{mag, _≤ℤ_, leZ-yes, ≤ℤ-refl}
@@ -26,22 +26,14 @@ use Rattle.scope.specs.Pressure.{eqZ, tenthsOf, stands, senseOf}
 use Rattle.scope.specs.Reading.{fieldOf}
 use Rattle.scope.specs.Sheet.{decimal, signedDecimal, keyLine, numberText, numbersText, linesThere, linesText, chainText, itemText, rowText}
 use Rattle.scope.specs.Sheet.{itemsText, fieldText, sheetOf}
-use Rattle.scope.specs.Laws.Pressure.{numberOf, number-few, some-number, one-number, own-tenths}
+use Rattle.scope.specs.Laws.Pressure.{eqZ-same, stands-lowest, stands-highest, stands-between, numberOf, number-few, some-number, one-number, own-tenths}
 use Rattle.demands.specs.Terms.{recordOf, IsField, bitOf}
-use Rattle.demands.specs.Pressure.{Says, atmost, atleast, equal, SaysSet, Printed, Number, Pressure}
+use Rattle.demands.specs.Pressure.{Says, atmost, atleast, equal, SaysSet, OnSheet, Number, Pressure}
 use Rattle.demands.specs.Defined.{program}
-use Rattle.demands.specs.Kept.Fields.{holds-field}
-use Rattle.demands.specs.Kept.Refusals.{items-are, record-bit}
+use Rattle.demands.specs.Kept.Refusals.{field-was, items-are, record-bit}
 use Rattle.demands.specs.Kept.Reads.{demand2}
 
 -- ---- the two lines say the set
-
-same : (y z : ℤ) → T (eqZ y z) → y ≡ z
-unfolding eqZ
-same (pos a) (pos b) t = ap pos (eqb→eq a b t)
-same (pos a) (negsuc b) t = absurd t
-same (negsuc a) (pos b) t = absurd t
-same (negsuc a) (negsuc b) t = ap negsuc (eqb→eq a b t)
 
 -- what is said by each word
 record Means (d : ℤ) (w : List ℕ) (t : ℤ) : Type 0 where
@@ -56,16 +48,12 @@ means (atleast h) = record { at-most = λ e. absurd (omega (arith, ap length e))
 means equal = record { at-most = λ e. absurd (omega (arith, ap length e)); at-least = λ e. absurd (omega (arith, ap length e)); the-one = λ e. refl }
 
 module _ (n : ℕ) where
-  -- between the ends a number stands for its tenths alone
-  alone : eqb n 0 ≡ false → eqb n 4_095 ≡ false → (t : ℤ) → stands (pos n) t ≡ eqZ t (tenthsOf (pos n))
-  unfolding stands
-  alone e f t = rw (e, f) refl
-
+  -- between the ends the one setting is said
   said-alone : {w : List ℕ} → w ≡ text "equal" → ((t : ℤ) → stands (pos n) t ≡ eqZ t (tenthsOf (pos n))) → SaysSet n (tenthsOf (pos n)) w
   unfolding eqZ
   said-alone {w} e a = record {
     stood-for = λ t h. subst T (sym (a t ∙ ap (λ x. eqZ x (pos (8_000 + n))) (means h .the-one e))) (eqb-refl (8_000 + n));
-    said = λ t h. subst₂ (Says (pos (8_000 + n))) (sym e) (sym (same t (pos (8_000 + n)) (subst T (a t) h))) equal;
+    said = λ t h. subst₂ (Says (pos (8_000 + n))) (sym e) (sym (eqZ-same t (pos (8_000 + n)) (subst T (a t) h))) equal;
   }
 
   set-said : SaysSet n (tenthsOf (pos n)) (senseOf (pos n))
@@ -79,7 +67,7 @@ module _ (n : ℕ) where
       go false true e f =
           let z : n ≡ 4_095 = eqb-true n 4_095 f in
           rw z (record { stood-for = λ t h. means h .at-least refl .le; said = λ t h. atleast (leZ-yes h) })
-      go false false e f = said-alone (rw (e, f) refl) (alone e f)
+      go false false e f = said-alone (rw (e, f) refl) (stands-between n (eqb-false n 0 e) (eqb-false n 4_095 f))
 
 -- ---- the set determines both lines
 
@@ -237,19 +225,19 @@ module _ (s : List ℕ) (o : Octets s) (f : Record) (h : IsField 21 s f) (there 
   abbrev others : List ℕ
   others = rowText (nextFlags bits) (drop 1 (paperOf 21)) (drop 1 (namesOf 21)) (first .others)
 
-  shown : Printed (sheetOf (21 ∷ s)) number
+  shown : OnSheet (sheetOf (21 ∷ s)) number
   shown =
       let n : ℕ = number in
       let cat : List ℕ = keyLine (text "cat") (decimal 21) in
       let len : List ℕ = keyLine (text "len") (decimal (lenOf s)) in
       let end : List ℕ = keyLine (text "end") (text "ok") in
-      let there : firstFlag bits ≡ 1 = first-flag bits ∙ sym (record-bit 21 s o f h 1 bps-numbered) ∙ there in
-      let row = ap (rowText bits (paperOf 21) (namesOf 21)) held ∙ bps-lines bits n (first .others) there ∙ ap (_++ others) (three-lines n) in record {
+      let flag : firstFlag bits ≡ 1 = first-flag bits ∙ sym (record-bit 21 s o f h 1 bps-numbered) ∙ there in
+      let row = ap (rowText bits (paperOf 21) (namesOf 21)) held ∙ bps-lines bits n (first .others) flag ∙ ap (_++ others) (three-lines n) in record {
         before = cat ++ (len ++ itemsLine bits);
         behind = others ++ end;
         tenths = tenthsOf (pos n);
         sense = senseOf (pos n);
-        lines = sheet-is s (h .what) (holds-field 21 s o (h .what) (h .known-is) (h .layout)) ∙ ap (λ x. cat ++ (len ++ (itemsLine bits ++ (x ++ end)))) row
+        lines = sheet-is s (h .what) (field-was 21 s o f h) ∙ ap (λ x. cat ++ (len ++ (itemsLine bits ++ (x ++ end)))) row
             ∙ around cat len (itemsLine bits) (keyLine (text "BPS") (decimal n)) (keyLine (text "BPS.tenths") (signedDecimal (tenthsOf (pos n))))
             (keyLine (text "BPS.sense") (senseOf (pos n))) others end;
         set = set-said n;
@@ -257,6 +245,9 @@ module _ (s : List ℕ) (o : Octets s) (f : Record) (h : IsField 21 s f) (there 
 
 pub pressure : Pressure program
 pressure = record {
+  lowest = stands-lowest;
+  highest = stands-highest;
+  between = λ n p q t h. eqZ-same t (pos (8_000 + n)) (subst T (stands-between n p q t) h);
   some = λ t. (numberOf t, number-few t, some-number t);
   one = one-number;
   printed = λ s f o h there out room.

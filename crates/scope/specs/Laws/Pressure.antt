@@ -1,15 +1,41 @@
 -- The sets of the numbers from 0 to 4,095: every setting belongs to exactly one of them, and each number's own `tenths` are in its set.
 use mathlib.Core.Path.{_≡_, refl, sym, ap, _∙_, subst}
+use mathlib.Core.Logic.{_≢_}
 use mathlib.Core.Bool.{Bool, true, false}
 use Prim.Native.Nat.{ℕ, _+_, _-_, _≤_, zero-le}
 use native.Mathlib.Omega.{arith}
 use borrow.Author.Tests.{leb-true, leb-false, eqb-true, eqb-false, lt-leb, eq-eqb, ne-eqb}
 use lib.Dec.{T, leb, eqb, eqb→eq, eqb-refl}
 use lib.IntN.{ℤ, pos, negsuc}
+use lib.Signed.{leZ}
 use Rattle.codec.specs.Pick.{pick}
-use Rattle.scope.specs.Pressure.{stands}
+use Rattle.scope.specs.Pressure.{eqZ, tenthsOf, stands}
 
--- the number of a setting: its tenths from 8,000 on, none below, and 4,095 from 12,095 on
+-- numbers that the test takes for the same are the same
+pub eqZ-same : (y z : ℤ) → T (eqZ y z) → y ≡ z
+unfolding eqZ
+eqZ-same (pos a) (pos b) t = ap pos (eqb→eq a b t)
+eqZ-same (pos a) (negsuc b) t = absurd t
+eqZ-same (negsuc a) (pos b) t = absurd t
+eqZ-same (negsuc a) (negsuc b) t = ap negsuc (eqb→eq a b t)
+
+-- ---- the three kinds of number
+
+pub stands-lowest : (t : ℤ) → stands (pos 0) t ≡ leZ t (pos 8_000)
+unfolding stands
+stands-lowest t = refl
+
+pub stands-highest : (t : ℤ) → stands (pos 4_095) t ≡ leZ (pos 12_095) t
+unfolding stands
+stands-highest t = refl
+
+pub stands-between : (n : ℕ) → n ≢ 0 → n ≢ 4_095 → (t : ℤ) → stands (pos n) t ≡ eqZ t (tenthsOf (pos n))
+unfolding stands
+stands-between n p q t = rw (ne-eqb n 0 p, ne-eqb n 4_095 q) refl
+
+-- ---- the number of a setting
+
+-- its tenths from 8,000 on, none below, and 4,095 from 12,095 on
 unfoldable pub numberOf : ℤ → ℕ
 numberOf (pos t) = pick (leb 12_095 t) 4_095 (t - 8_000)
 numberOf (negsuc t) = 0
@@ -34,7 +60,7 @@ module _ (n t : ℕ) (h : n ≤ 4_095) where
   highest true e f = f ∙ sym (eq-eqb n 4_095 e)
   highest false e f = f ∙ sym (ne-eqb n (t - 8_000) (λ x. omega (arith, leb-false 12_095 t f)))
 
-  between : (c d : Bool) → (n ≡ 0 → ⊥) → (n ≡ 4_095 → ⊥) → leb 12_095 t ≡ c → eqb t (8_000 + n) ≡ d → eqb t (8_000 + n) ≡ eqb n (pick c 4_095 (t - 8_000))
+  between : (c d : Bool) → n ≢ 0 → n ≢ 4_095 → leb 12_095 t ≡ c → eqb t (8_000 + n) ≡ d → eqb t (8_000 + n) ≡ eqb n (pick c 4_095 (t - 8_000))
   between true d p q f g = ne-eqb t (8_000 + n) (λ x. q (omega (arith, leb-true 12_095 t f))) ∙ sym (ne-eqb n 4_095 q)
   between false true p q f g = g ∙ sym (eq-eqb n (t - 8_000) (omega (arith, eqb-true t (8_000 + n) g)))
   between false false p q f g = g ∙ sym (ne-eqb n (t - 8_000) (λ x. eqb-false t (8_000 + n) g (omega (arith, x))))
