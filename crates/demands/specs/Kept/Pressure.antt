@@ -2,13 +2,13 @@
 use mathlib.Core.Path.{_≡_, refl, sym, ap, _∙_, subst, subst₂}
 use mathlib.Core.Bool.{Bool, true, false}
 use mathlib.Core.List.{List, [], _∷_, _++_, append-assoc, append-nil}
-use Prim.Native.Nat.{ℕ, suc, _+_, _≤_}
+use Prim.Native.Nat.{ℕ, suc, _+_, _≤_, _<_}
 use native.Mathlib.Nat.{le-antisymm}
 use native.Mathlib.Omega.{arith}
 use borrow.Author.Tests.{eqb-true, eqb-false}
 use lib.Dec.{T, eqb, leb→le, le→leb, eqb-refl}
 use lib.IntN.{ℤ, pos, negsuc}
-use lib.ListN.{length, drop, getD}
+use lib.ListN.{length, drop}
 use lib.Signed.{mag, _≤ℤ_, leZ-yes, ≤ℤ-refl}
 use Rattle.codec.specs.Codec.{Octets}
 use Rattle.codec.specs.Field.{firstFlag, nextFlags, uncons, flags, Contents}
@@ -17,9 +17,10 @@ use Rattle.codec.specs.Item.{linesOf}
 use Rattle.codec.specs.Line.{Held, count}
 use Rattle.codec.specs.Printed.{Entry, Structure, compound, fixed}
 use Rattle.codec.specs.Meaning.{lenOf, bitsOf, meant, bigEndian, numbersOf, IsLine, is-fixed, AreItems, item, no-item}
+use Rattle.codec.specs.Laws.Meaning.{flagsFrom, flags-from}
 use Rattle.papers.specs.Cat021.{BPS, printed021, cat021}
 use Rattle.papers.specs.Names.{text, pressure as pressed, namesOf, names021}
-use Rattle.papers.specs.Papers.{numbered, paperOf, printedOf}
+use Rattle.papers.specs.Papers.{paperOf, printedOf}
 use Rattle.layout.specs.declared.Record.{Record}
 use Rattle.layout.specs.Record.{allNumbers, numberAt}
 use Rattle.scope.specs.Pressure.{eqZ, tenthsOf, stands, senseOf}
@@ -30,7 +31,7 @@ use Rattle.scope.specs.Laws.Pressure.{eqZ-same, stands-lowest, stands-highest, 
 use Rattle.demands.specs.Terms.{recordOf, IsField, bitOf}
 use Rattle.demands.specs.Pressure.{Says, atmost, atleast, equal, SaysSet, OnSheet, Number, Pressure}
 use Rattle.demands.specs.Defined.{program}
-use Rattle.demands.specs.Kept.Refusals.{field-was, items-are, record-bit}
+use Rattle.demands.specs.Kept.Refusals.{field-was, indicator-small, items-are}
 use Rattle.demands.specs.Kept.Reads.{demand2}
 
 -- ---- the two lines say the set
@@ -151,20 +152,15 @@ first-item : {ind b : ℕ} {e : Structure} {es : List Entry} {os : List ℕ} {vs
 first-item (item {vs = vs} d (is-fixed {os = os} {zs = zs} l) r) t = record { octets = os; numbers = zs; others = vs; held = refl; line = l }
 first-item (no-item d r) t = absurd (omega arith)
 
-first-flag : (ds : List ℕ) → firstFlag ds ≡ getD ds 0 0
-unfolding firstFlag
-first-flag [] = refl
-first-flag (d ∷ ds) = refl
+first-bit : (n : ℕ) → n < 256 → firstFlag (flags n) ≡ bitsOf n 8 8
+unfolding firstFlag flagsFrom
+first-bit n h = ap firstFlag (flags-from n h)
 
 -- ---- BPS: its number, and its lines on the sheet
 
 abbrev structureOf : Entry → Structure
 structureOf (fixed s) = s
 structureOf (compound name p qs ss) = p
-
-bps-numbered : T (numbered 21 1)
-unfolding paperOf cat021
-bps-numbered = tt
 
 bps-number : (os : List ℕ) (zs : List ℤ) → IsLine (structureOf BPS) os zs → zs ≡ pos (bitsOf (bigEndian os) 12 1) ∷ []
 unfolding numbersOf meant
@@ -202,9 +198,12 @@ around : (c l i b t w r e : List ℕ) → c ++ (l ++ (i ++ (((b ++ (t ++ w)) ++ 
 around c l i b t w r e = simp append-assoc refl
 
 module _ (s : List ℕ) (o : Octets s) (f : Record) (h : IsField 21 s f) (there : bitOf (f .items) 1 ≡ 1) where
+  bit : bitsOf (h .what .0) 8 8 ≡ 1
+  bit = ap (λ x. bitOf x 1) (sym (items-are 21 s o f h)) ∙ there
+
   first : First (structureOf BPS) (h .what .1)
   unfolding printedOf printed021
-  first = first-item (h .layout .items) (ap (λ x. bitOf x 1) (sym (items-are 21 s o f h)) ∙ there)
+  first = first-item (h .layout .items) bit
 
   abbrev number : ℕ
   number = bitsOf (bigEndian (first .octets)) 12 1
@@ -231,7 +230,7 @@ module _ (s : List ℕ) (o : Octets s) (f : Record) (h : IsField 21 s f) (there 
       let cat : List ℕ = keyLine (text "cat") (decimal 21) in
       let len : List ℕ = keyLine (text "len") (decimal (lenOf s)) in
       let end : List ℕ = keyLine (text "end") (text "ok") in
-      let flag : firstFlag bits ≡ 1 = first-flag bits ∙ sym (record-bit 21 s o f h 1 bps-numbered) ∙ there in
+      let flag : firstFlag bits ≡ 1 = first-bit (h .what .0) (indicator-small 21 s o f h) ∙ bit in
       let row = ap (rowText bits (paperOf 21) (namesOf 21)) held ∙ bps-lines bits n (first .others) flag ∙ ap (_++ others) (three-lines n) in record {
         before = cat ++ (len ++ itemsLine bits);
         behind = others ++ end;
