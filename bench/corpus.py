@@ -18,7 +18,7 @@ from papers import PAPERS  # noqa: E402
 
 MANY, FEW = 2048, 256
 LENGTHS = (2, 8, 16, 32, 52)
-ROOM, PLACES = 1024, 87  # of an output, and of a record's array
+ROOM, PLACES = 2048, 87  # of an output, and of a record's array
 REMOVAL = 0xFFFF
 
 # new is None for a removal; the record is the numbers of its array; room and places are the lengths that are lent

@@ -19,7 +19,7 @@
 #define SIDE(operation) plain_##operation
 #endif
 
-enum { ROOM = 1024, PLACES = 100, LARGEST = 1 << 24, REMOVAL = 0xFFFF };
+enum { ROOM = 2048, PLACES = 100, LARGEST = 1 << 24, REMOVAL = 0xFFFF };
 
 /* A request as corpus.py packs it. Behind it stand the category, the field, the new octets; up to a multiple of 4. */
 struct head {

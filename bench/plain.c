@@ -858,11 +858,15 @@ static inline char *line(char *t, const char *key, size_t n, int32_t z)
 #define LINE(key, z) (t = line(t, key "=", sizeof key, z))
 #define ITEM_LINE(key, z) (t = put(t, item, 3), LINE(key, z))
 
-/* Millionths of a degree, nearest, halves away from zero. */
-static int32_t udeg(int32_t n)
+/* Millionths of a degree, nearest, halves away from zero; and what they leave of the exact angle, in parts of 32,768. */
+struct angle {
+    int32_t udeg, left;
+};
+
+static struct angle angle(int32_t n)
 {
-    int64_t p = INT64_C(703125) * n;
-    return (int32_t)((p < 0 ? p - 16384 : p + 16384) / 32768);
+    int64_t p = INT64_C(703125) * n, q = (p < 0 ? p - 16384 : p + 16384) / 32768;
+    return (struct angle){(int32_t)q, (int32_t)(p - q * 32768)};
 }
 
 static char *show_xp(char *t, const char *item, const int32_t *n)
@@ -891,10 +895,13 @@ static char *show_sum(char *t, const char *item, const int32_t *n)
 static char *show_mode5(char *t, const char *item, const int32_t *n)
 {
     if (n[2]) {
+        struct angle lat = angle(n[18]), lon = angle(n[19]);
         ITEM_LINE(".POS.LAT", n[18]);
-        ITEM_LINE(".POS.LAT.udeg", udeg(n[18]));
+        ITEM_LINE(".POS.LAT.udeg", lat.udeg);
+        ITEM_LINE(".POS.LAT.left", lat.left);
         ITEM_LINE(".POS.LON", n[19]);
-        ITEM_LINE(".POS.LON.udeg", udeg(n[19]));
+        ITEM_LINE(".POS.LON.udeg", lon.udeg);
+        ITEM_LINE(".POS.LON.left", lon.left);
     }
     if (n[3]) {
         ITEM_LINE(".GA.RES", n[20]);
@@ -1139,7 +1146,7 @@ static char *show_field(char *t, uint8_t cat, const uint8_t *field, size_t n)
 
 uint64_t plain_sheet(const uint8_t *input, size_t n, uint8_t *out, size_t room)
 {
-    char text[1024], *t = text; /* the longest sheet has 989 octets */
+    char text[2048], *t = text; /* the longest sheet has 1,055 octets */
     if (n == 0) {
         t = show_refusal(put(t, "cat=none\n", 9), refused(SHORT_SLICE, 0));
     } else {

@@ -223,7 +223,7 @@ uint64_t ref_copy(uint8_t cat, const uint8_t *field, size_t field_len, uint8_t w
  * output is as before. A field that is refused has a sheet too, which says so, and so has an input of no octets.
  * Answers the length of the text, at most REF_SHEET. Refused: 11 where the output is shorter than the text.
  */
-#define REF_SHEET 989
+#define REF_SHEET 1055
 uint64_t ref_sheet(const uint8_t *input, size_t input_len, uint8_t *out, size_t out_len);
 
 #ifdef __cplusplus

@@ -245,10 +245,11 @@ def copy(cat, field, withheld, room):
 
 # ---- the sheet
 
-def udeg(n):
-    """Millionths of a degree, nearest, halves away from zero; the exact angle is n * 703125 / 32768."""
+def angle(n):
+    """Millionths of a degree, nearest, halves away from zero, and what they leave over of the exact angle, n * 703125 / 32768, in parts of 32768."""
     whole, rest = divmod(abs(n) * 703125, 32768)
-    return (whole + (2 * rest >= 32768)) * (-1 if n < 0 else 1)
+    up, side = 2 * rest >= 32768, -1 if n < 0 else 1
+    return side * (whole + up), side * (rest - 32768 if up else rest)
 
 
 def keys(item):
@@ -276,7 +277,7 @@ SENSES = {0: "atmost", 4095: "atleast"}
 def number_lines(key, z):
     lines = [f"{key}={z}"]
     if key.endswith((".LAT", ".LON")):
-        lines.append(f"{key}.udeg={udeg(z)}")
+        lines += [f"{key}.{word}={value}" for word, value in zip(("udeg", "left"), angle(z))]
     if key == "BPS":
         lines += [f"BPS.tenths={8000 + z}", f"BPS.sense={SENSES.get(z, 'equal')}"]
     return lines

@@ -2,6 +2,7 @@
 """01's worked octets, edits and longest fields, and edits, copies and records written by hand, held against the reference implementation of the tests;
 and the papers' data of crates/papers, as tests/slots.py takes it, and docs/SPARE.md held against the transcription of the tests. And that each public function
 has its wrong programs, as tests/ledger.py counts them."""
+from decimal import ROUND_HALF_UP, Decimal
 from itertools import zip_longest
 from math import inf
 
@@ -12,7 +13,8 @@ import spares
 from edits import BASE, WORKED
 from papers import INDICATORS, MEASURES, PAPERS, SECTIONS
 from reads import requests
-from reference import choose, copy, edit, keys, read, sheet, size, SLOTS, spare_bits, udeg, view, write
+from reference import angle, choose, copy, edit, keys, read, sheet, size, SLOTS, spare_bits, view, write
+from sheets import positions
 
 h = bytes.fromhex
 
@@ -288,6 +290,12 @@ def one_number_each():
     return sets[0] == (-inf, 8000) and sets[-1] == (12095, inf) and all(low == high + 1 for (_, high), (low, _) in zip(sets, sets[1:]))
 
 
+def by_decimals(n):
+    """The angle by the rounding that decimals have of their own, and the leftover by 02's sum."""
+    udeg = int((Decimal(n) * 703125 / 32768).quantize(Decimal(1), ROUND_HALF_UP))
+    return udeg, n * 703125 - udeg * 32768
+
+
 def longest(cat):
     return 2 + sum(sum(o for o, _ in parts) + sum(o for _, o, _ in subs) for _, parts, subs in PAPERS[cat])
 
@@ -334,9 +342,15 @@ assert [sum(map(size, PAPERS[c])) for c in (48, 21, 7)] == [77, 74, 46]
 assert view(48, BASE, 5) == ("ok", 3, 3, h("01 00 00"))
 assert choose(48, BASE, h("03 20 04"), 3) == ("ok", 2, 2, 1, h("04"))
 assert sheet(h("30 06 28 06 01 00 00")) == "cat=48\nlen=6\nitems=M4E,ERR\nM4E=3\nERR=65536\nend=ok\n"
-assert [udeg(n) for n in (1, 16384, -16384, 4194304)] == [21, 351563, -351563, 90000000]
+assert [angle(n) for n in (1, 16384, -16384, 4194304)] == [(21, 14997), (351563, -16384), (-351563, 16384), (90000000, 0)]
+for n in positions() + list(range(-(1 << 23), 1 << 23, 4093)):
+    assert angle(n) == by_decimals(n) and abs(angle(n)[1]) <= 16384, n
+    checks += 1
+assert sheet(h("30 09 80 20 00 40 00 FF C0 00")) == (
+    "cat=48\nlen=9\nitems=MD5\nMD5.POS.LAT=16384\nMD5.POS.LAT.udeg=351563\nMD5.POS.LAT.left=-16384\n"
+    "MD5.POS.LON=-16384\nMD5.POS.LON.udeg=-351563\nMD5.POS.LON.left=16384\nend=ok\n")
 for n, sense in ((0, "atmost"), (1, "equal"), (4094, "equal"), (4095, "atleast")):
     assert sheet(pressed(n)) == f"cat=21\nlen=4\nitems=BPS\nBPS={n}\nBPS.tenths={8000 + n}\nBPS.sense={sense}\nend=ok\n"
     checks += 1
 assert one_number_each()
-print(f"{checks + 10} passed, 0 failed")
+print(f"{checks + 11} passed, 0 failed")

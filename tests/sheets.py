@@ -14,10 +14,10 @@ from papers import PAPERS
 from reads import (
     bad_fields, behind_len, chain_over, damaged, limits_later, noise, numbers_at_their_ends, octets_left, orders, spare_set, subfields_alone,
 )
-from reference import keys, lay_item, sheet
+from reference import keys, lay_item, number_lines, sheet
 
 RANDOM = 30  # fields of each random kind and category
-LONGEST = {48: 959, 21: 989, 7: 571}  # the octets of each category's longest sheet
+LONGEST = {48: 1055, 21: 989, 7: 619}  # the octets of each category's longest sheet
 WORKED = bytes.fromhex("30 06 28 06 01 00 00")
 HALF = 16384  # with a whole number of 32,768 beside it, its angle ends in half a millionth
 
@@ -41,8 +41,9 @@ def longer_decimals(number):
 
 
 def widest(number):
-    """The number with the longest decimal: with every number so, no sheet is longer."""
-    return max(limits(number), key=lambda z: len(str(z)))
+    """The number with the longest lines: with every number so, no sheet is longer. An angle's are longest near its lower end, which itself leaves 0."""
+    low, high = limits(number)
+    return max(range(low, low + 32) if number[0] in ("LAT", "LON") else (low, high), key=lambda z: sum(map(len, number_lines("." + number[0], z))))
 
 
 # ---- fields that have a sheet of their numbers
@@ -235,5 +236,6 @@ def covered():
     assert places[None, 1] == {0}
     assert {1, 2, 255, 256, 257, 300} <= {len(given) for given in made}
     assert {"351563", "-351563", "21", "90000000"} <= seen[48, "MD5.POS.LAT.udeg"] and "-180000000" in seen[48, "M5N.POS.LON.udeg"]
+    assert {"0", "16384", "-16384", "14997", "-14997", "1387", "-1387"} <= seen[48, "MD5.POS.LAT.left"] & seen[48, "M5N.POS.LON.left"]
     assert {"8000", "8001", "9999", "10000", "12094", "12095"} <= seen[21, "BPS.tenths"]
     assert seen[21, "BPS.sense"] == {"atmost", "equal", "atleast"}

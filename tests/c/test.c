@@ -457,7 +457,14 @@ static const struct sheet_row {
     {"30 04 80 04 FF", "cat=48\nlen=4\nitems=MD5\nMD5.TOS=-1\nend=ok\n"},
     {"30 05 80 10 3F D8", "cat=48\nlen=5\nitems=MD5\nMD5.GA.RES=0\nMD5.GA.GA=-40\nend=ok\n"},
     {"30 09 80 20 40 00 00 80 00 00",
-     "cat=48\nlen=9\nitems=MD5\nMD5.POS.LAT=4194304\nMD5.POS.LAT.udeg=90000000\nMD5.POS.LON=-8388608\nMD5.POS.LON.udeg=-180000000\nend=ok\n"},
+     "cat=48\nlen=9\nitems=MD5\nMD5.POS.LAT=4194304\nMD5.POS.LAT.udeg=90000000\nMD5.POS.LAT.left=0\n"
+     "MD5.POS.LON=-8388608\nMD5.POS.LON.udeg=-180000000\nMD5.POS.LON.left=0\nend=ok\n"},
+    {"30 09 80 20 00 40 00 FF C0 00",
+     "cat=48\nlen=9\nitems=MD5\nMD5.POS.LAT=16384\nMD5.POS.LAT.udeg=351563\nMD5.POS.LAT.left=-16384\n"
+     "MD5.POS.LON=-16384\nMD5.POS.LON.udeg=-351563\nMD5.POS.LON.left=16384\nend=ok\n"},
+    {"07 09 40 20 00 3F FF 00 00 01",
+     "cat=7\nlen=9\nitems=M5N\nM5N.chain=1\nM5N.POS.LAT=16383\nM5N.POS.LAT.udeg=351541\nM5N.POS.LAT.left=1387\n"
+     "M5N.POS.LON=1\nM5N.POS.LON.udeg=21\nM5N.POS.LON.left=14997\nend=ok\n"},
     {"30 04 40 01 00", "cat=48\nlen=4\nitems=M5N\nM5N.chain=2\nend=ok\n"},
     {"15 04 80 00 00", "cat=21\nlen=4\nitems=BPS\nBPS=0\nBPS.tenths=8000\nBPS.sense=atmost\nend=ok\n"},
     {"15 04 80 00 01", "cat=21\nlen=4\nitems=BPS\nBPS=1\nBPS.tenths=8001\nBPS.sense=equal\nend=ok\n"},

@@ -11,7 +11,7 @@ use Rattle.scope.specs.Views.{viewOf, partOf, chooseOf, chosenOf}
 use Rattle.scope.specs.Desk.{editOf}
 use Rattle.scope.specs.Visitors.{copyOf}
 use Rattle.scope.specs.Sheet.{sheetOf}
-use Rattle.scope.specs.Angle.{udegOf}
+use Rattle.scope.specs.Angle.{udegOf, leftOf}
 use Rattle.demands.specs.Demands.{Program}
 
 -- an outcome, and the output that was lent
@@ -30,4 +30,5 @@ program = record {
   chosen = λ cat b s item. chosenOf b s (chooseOf cat b s item);
   sheet = λ s out. handed (withRoom (length out) (sheetOf s)) out;
   udeg = udegOf;
+  left = leftOf;
 }

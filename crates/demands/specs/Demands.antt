@@ -31,8 +31,9 @@ pub record Program : Type 0 where
   pub chosen : ℕ → List ℕ → List ℕ → ℕ → List ℕ
   -- sheet::sheet(input, out)
   pub sheet : List ℕ → List ℕ → Answer × List ℕ
-  -- angle::udeg(n)
+  -- angle::exact(n)
   pub udeg : ℤ → ℤ
+  pub left : ℤ → ℤ
 
 -- the octets of n items behind the first i, one after the other
 abbrev pub parts : Program → ℕ → List ℕ → ℕ → ℕ → List ℕ

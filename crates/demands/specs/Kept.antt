@@ -13,6 +13,7 @@ pub mod Edits
 pub mod Visitors
 pub mod Members
 pub mod Pressure
+pub mod Leftovers
 
 pub kept : Demands program
 kept = record { one = demand1; two = demand2; three = demand3 }

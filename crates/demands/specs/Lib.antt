@@ -4,6 +4,7 @@ pub mod Demands
 pub mod Visitors
 pub mod Members
 pub mod Pressure
+pub mod Leftovers
 pub mod Defined
 pub mod Kept
 pub mod Angles

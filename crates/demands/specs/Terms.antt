@@ -7,7 +7,7 @@ pub use mathlib.Core.Bool.{Bool, true, false, _&&_}
 pub use mathlib.Core.List.{List, [], _∷_, _++_}
 pub use Prim.Native.Nat.{ℕ, zero, suc, _+_, _-_, _*_, _^_, _≤_, _<_}
 pub use lib.Dec.{T, leb, eqb}
-pub use lib.IntN.{ℤ, pos}
+pub use lib.IntN.{ℤ, pos, negℤ}
 pub use lib.ListN.{length, take, drop, set, replicate}
 pub use lib.Signed.{leZ, _≤ℤ_}
 -- one of two by a test
@@ -43,12 +43,12 @@ pub use Rattle.layout.specs.declared.Which.{Which}
 pub use Rattle.layout.specs.declared.Which.the-variants.{Neither, Base, Correction}
 pub use Rattle.layout.specs.declared.Choice.{Choice}
 -- the record of a refused field; the sheet's text, a line of it, and the letters and decimals of a line; whether a number
--- can stand for a barometric setting; the angle that is nearest, halves away from zero
+-- can stand for a barometric setting; the angle that is nearest, halves away from zero, and that with its exact leftover
 pub use Rattle.scope.specs.Reading.{noRecord}
 pub use Rattle.scope.specs.Sheet.{sheetOf, keyLine, decimal, signedDecimal}
 pub use Rattle.papers.specs.Names.{text}
 pub use Rattle.scope.specs.Pressure.{stands}
-pub use Rattle.demands.specs.Angles.{Nearest}
+pub use Rattle.demands.specs.Angles.{Nearest, Exact}
 
 -- ---- fields of a category
 

@@ -1,6 +1,6 @@
 // The program of 01's edges: lists each row of its table 'Octets tried at each edge', in that order, then views and chooses items and says angles.
 // Each row is a line of the protocol (docs/PROTOCOL.md) behind which its answer stands. The file `stdout` is from outside: the answers by
-// tests/refdesk.py, the angles by hand from the line below the table and, where it has none, from 'The sheet'.
+// tests/refdesk.py, the angles by hand from the line below the table and, where it has none, from 'The sheet', and what they leave from 02, Ask 7.
 
 fn main() {
     list_rows_of_parts();
@@ -81,7 +81,7 @@ fn choose_refusals() {
     ask(b"choose 49 0280 0280 9");
 }
 
-// The angles that 01 gives below its table.
+// The angles that 01 gives below its table, and what they leave: "so 16,384 leaves -16,384".
 fn say_angles() {
     say_angle(1);
     say_angle(16_384);
@@ -89,8 +89,10 @@ fn say_angles() {
     say_angle(4_194_304);
 }
 
-// The other end of the latitude, both ends of the longitude, and zero between them.
+// The neighbours of a half, the other end of the latitude, both ends of the longitude, and zero between them.
 fn say_angles_of_ends() {
+    say_angle(16_383);
+    say_angle(16_385);
     say_angle(-4_194_304);
     say_angle(-8_388_608);
     say_angle(8_388_607);
@@ -114,8 +116,11 @@ fn say_angle(n: i32) {
     let mut buf = io::buffer();
     let number = text::word(b"angle ", 0, &mut buf);
     let arrow = text::signed(n as i64, number, &mut buf);
-    let angle = text::word(b" -> ", arrow, &mut buf);
-    let end = text::signed(angle::udeg(n), angle, &mut buf);
+    let udeg = text::word(b" -> ", arrow, &mut buf);
+    let angle = angle::exact(n);
+    let left = text::signed(angle.udeg, udeg, &mut buf);
+    let behind = text::word(b" left ", left, &mut buf);
+    let end = text::signed(angle.left, behind, &mut buf);
     let last = text::line_end(end, &mut buf);
     say(&buf[..last]);
 }

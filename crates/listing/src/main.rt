@@ -16,7 +16,7 @@ const MOST: usize = 256;
 const FAILED: usize = MOST + 1;
 
 // Room for every sheet: the contract of `listed` asks for it.
-const ROOM: usize = 1024;
+const ROOM: usize = 2048;
 
 fn main() {
     let mut input = [0u8; MOST];

@@ -45,9 +45,9 @@ use Rattle.views.proofs.choose.Reads as choose-claims
 use Rattle.sheet.proofs.sheet.Statement as sheet
 use Rattle.sheet.proofs.sheet.Met as sheet-met
 use Rattle.sheet.proofs.sheet.Reads as sheet-claims
-use Rattle.angle.proofs.udeg.Statement as udeg
-use Rattle.angle.proofs.udeg.Met as udeg-met
-use Rattle.angle.proofs.udeg.Reads as udeg-claims
+use Rattle.angle.proofs.exact.Statement as exact
+use Rattle.angle.proofs.exact.Met as exact-met
+use Rattle.angle.proofs.exact.Reads as exact-claims
 use Rattle.demands.specs.Demands.{Program}
 use Rattle.demands.specs.Defined.{handed, program}
 
@@ -91,7 +91,8 @@ pub record Computes (p : Program) : Type 2 where
       (p .choose (args .0) (now (args .1 .0)) (now (args .1 .1 .0)) (args .1 .1 .1 .0))))
   pub sheet : Runs sheet.statement sheet-claims.Pre sheet-claims.Post
       (λ args a ends. Handed a (now (ends .1 .0)) (p .sheet (now (args .0)) (now (args .1 .0))))
-  pub udeg : Runs udeg.statement udeg-claims.Pre udeg-claims.Post (λ args a ends. a ≡ p .udeg (args .0))
+  pub exact : Runs exact.statement exact-claims.Pre exact-claims.Post
+      (λ args a ends. (a .udeg ≡ p .udeg (args .0)) × (a .left ≡ p .left (args .0)))
 
 handing : {o : Outcome (List ℕ)} {out : List ℕ} {a : Answer} {out′ : List ℕ} → Leaves o out a out′ → Handed a out′ (handed o out)
 handing p i = (p .answer i, p .output i)
@@ -108,5 +109,5 @@ computed = record {
   choose-answer = record { runs = choose-answer-met.met; asks = λ lives args. tt; gives = λ lives args c ends p. p };
   choose = record { runs = choose-met.met; asks = λ lives args. tt; gives = λ lives args x ends p. p };
   sheet = record { runs = sheet-met.met; asks = λ lives args. tt; gives = λ lives args a ends. handing };
-  udeg = record { runs = udeg-met.met; asks = λ lives args. tt; gives = λ lives args a ends p. p };
+  exact = record { runs = exact-met.met; asks = λ lives args. tt; gives = λ lives args a ends p. p };
 }

@@ -1,15 +1,18 @@
 -- The whole in one theorem: the compiled code computes a program, from every input and without a fault, and that
--- program meets the three demands and what 02 asks of the visitors' copy, of two members and of the pressure.
+-- program meets the three demands and what 02 asks of the visitors' copy, of two members, of the pressure and of the
+-- exact angle.
 use Rattle.demands.specs.Demands.{Program, Demands}
 use Rattle.demands.specs.Visitors.{Visitors}
 use Rattle.demands.specs.Members.{deskOf, Members}
 use Rattle.demands.specs.Pressure.{Pressure}
+use Rattle.demands.specs.Leftovers.{Leftovers}
 use Rattle.demands.specs.Defined.{program}
 use Rattle.promises.specs.Code.{Computes, computed}
 use Rattle.demands.specs.Kept.{kept}
 use Rattle.demands.specs.Kept.Visitors.{visitors}
 use Rattle.demands.specs.Kept.Members.{members}
 use Rattle.demands.specs.Kept.Pressure.{pressure}
+use Rattle.demands.specs.Kept.Leftovers.{leftovers}
 
 pub record Top : Type 2 where
   pub does : Program
@@ -18,6 +21,15 @@ pub record Top : Type 2 where
   pub visitors : Visitors does
   pub members : Members (deskOf does)
   pub pressure : Pressure does
+  pub leftovers : Leftovers does
 
 pub top : Top
-top = record { does = program; computes = computed; meets = kept; visitors = visitors; members = members; pressure = pressure }
+top = record {
+  does = program;
+  computes = computed;
+  meets = kept;
+  visitors = visitors;
+  members = members;
+  pressure = pressure;
+  leftovers = leftovers;
+}

@@ -33,7 +33,7 @@ use Rattle.scope.specs.Outputs.{withRoom}
 use Rattle.scope.specs.Views.{isItem, present, standing, viewIn, viewOf, chooseIn, chooseOf}
 use Rattle.scope.specs.Desk.{listed, afresh, editIn, editOf}
 use Rattle.scope.specs.Visitors.{without, copyIn, copyOf}
-use Rattle.scope.specs.Angle.{rounded, udegOf}
+use Rattle.scope.specs.Angle.{rounded, udegOf, leftOf}
 use Rattle.scope.specs.Pressure.{eqZ, stands}
 
 -- ---- reading
@@ -204,11 +204,26 @@ pub visits-copied : map (λ (v : Visit). copyOf (v .cat) (v .field) (v .withheld
 unfolding visits copyOf copyIn without withRoom listed fieldOf known paperOf cat048 cat021 cat007 blankAt setItem setFlag lenOf settle readFrame writeFrame body indicator allZero row firstFlag nextFlags uncons slots item chain fxOf beside subfields isOne slotsOf line cells number toNum ofNum toSigned ofSigned limit widths count clear nums unnums inLimits total cut join
 visits-copied = refl
 
--- ---- "Angles: 1 gives 21, 16,384 gives 351,563, -16,384 gives -351,563, 4,194,304 gives 90,000,000"
+-- ---- "Angles: 1 gives 21, 16,384 gives 351,563, -16,384 gives -351,563, 4,194,304 gives 90,000,000" (01); "so 16,384 leaves -16,384" (02, Ask 7). A number,
+-- its millionths and what these leave: first 01's four, then the neighbours of a half, and the other ends
 
-pub angles : map udegOf (pos 1 ∷ pos 16_384 ∷ negsuc 16_383 ∷ pos 4_194_304 ∷ []) ≡ pos 21 ∷ pos 351_563 ∷ negsuc 351_562 ∷ pos 90_000_000 ∷ []
-unfolding udegOf rounded
-angles = refl
+unfoldable pub angles : List (ℤ × ℤ × ℤ)
+angles =
+    (pos 1, pos 21, pos 14_997)
+    ∷ (pos 16_384, pos 351_563, negsuc 16_383)
+    ∷ (negsuc 16_383, negsuc 351_562, pos 16_384)
+    ∷ (pos 4_194_304, pos 90_000_000, pos 0)
+    ∷ (pos 16_383, pos 351_541, pos 1_387)
+    ∷ (pos 16_385, pos 351_584, negsuc 1_386)
+    ∷ (pos 0, pos 0, pos 0)
+    ∷ (negsuc 4_194_303, negsuc 89_999_999, pos 0)
+    ∷ (negsuc 8_388_607, negsuc 179_999_999, pos 0)
+    ∷ (pos 8_388_607, pos 179_999_979, negsuc 14_996)
+    ∷ []
+
+pub angles-exact : map {B = ℤ × ℤ} (λ (a : ℤ × ℤ × ℤ). (udegOf (a .0), leftOf (a .0))) angles ≡ map {B = ℤ × ℤ} (λ (a : ℤ × ℤ × ℤ). (a .1, a .2)) angles
+unfolding angles udegOf leftOf rounded
+angles-exact = refl
 
 -- ---- 02, Ask 1: "BPS 0 means 800 hPa or less, and 4,095 means 1209.5 hPa or more". A number, a setting in tenths of hPa, and whether the one can stand for the
 -- other, at each end and beside it

@@ -7,4 +7,5 @@ pub mod Edits
 pub mod Alike
 pub mod Without
 pub mod Visitors
+pub mod Angle
 pub mod Pressure

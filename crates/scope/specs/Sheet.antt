@@ -14,7 +14,7 @@ use Rattle.codec.specs.Meaning.{lenOf}
 use Rattle.papers.specs.Names.{text, Key, hidden, shown, angle, pressure, Named, namesOf}
 use Rattle.papers.specs.Papers.{paperOf}
 use Rattle.layout.specs.declared.Answer.{Answer}
-use Rattle.scope.specs.Angle.{udegOf}
+use Rattle.scope.specs.Angle.{udegOf, leftOf}
 use Rattle.scope.specs.Pressure.{tenthsOf, senseOf}
 use Rattle.scope.specs.Reading.{fieldOf}
 use Rattle.scope.specs.Outputs.{withRoom, Leaves}
@@ -41,16 +41,21 @@ signedDecimal (negsuc n) = text "-" ++ decimal (suc n)
 unfoldable pub keyLine : List ℕ → List ℕ → List ℕ
 keyLine key value = key ++ (text "=" ++ (value ++ (10 ∷ [])))
 
+-- "After each latitude and each longitude comes a line with `.udeg` added to the key" (01); "The sheet gets a line ending `.left` after each `.udeg`, with
+-- the same key before it" (02, Ask 7)
+abbrev pub angleText : List ℕ → ℤ → List ℕ
+angleText k z = keyLine (k ++ text ".udeg") (signedDecimal (udegOf z)) ++ keyLine (k ++ text ".left") (signedDecimal (leftOf z))
+
 -- "After BPS comes `BPS.tenths`" (01); "After `BPS.tenths` print `BPS.sense`" (02, Ask 1): one never stands without the other
 abbrev pub pressureText : List ℕ → ℤ → List ℕ
 pressureText k z = keyLine (k ++ text ".tenths") (signedDecimal (tenthsOf z)) ++ keyLine (k ++ text ".sense") (senseOf z)
 
--- "After each latitude and each longitude comes a line with `.udeg` added to the key"
+-- a number, and behind it what is derived from it
 unfoldable pub numberText : Key → ℤ → List ℕ
 unfolding keyLine signedDecimal
 numberText hidden z = []
 numberText (shown k) z = keyLine k (signedDecimal z)
-numberText (angle k) z = keyLine k (signedDecimal z) ++ keyLine (k ++ text ".udeg") (signedDecimal (udegOf z))
+numberText (angle k) z = keyLine k (signedDecimal z) ++ angleText k z
 numberText (pressure k) z = keyLine k (signedDecimal z) ++ pressureText k z
 
 unfoldable pub numbersText : List Key → List ℤ → List ℕ

@@ -1,6 +1,6 @@
 // The sheet of an input, a category octet and a field: what the maker and the buyer's engineer read.
 // Promises: every octet of the text, its length and the rest of the output; 11 where the output is short.
-// Stands on reader for the record, on text for words and decimals, on angle and pressure, and on outputs.
+// Stands on reader for the record, on text for words and decimals, on position and pressure, and on outputs.
 ghost use mathlib.Core.Path.{_≡_};
 ghost use mathlib.Core.Bool.{true};
 ghost use mathlib.Core.List.{_∷_};

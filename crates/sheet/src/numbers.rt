@@ -1,22 +1,16 @@
 // The numbers of one chain part or subfield, each with its key and what is derived from it.
-// Promises: `group` types the text of the numbers that stand in the slots, one for each key of the group. Stands on layout, angle, pressure and text.
+// Promises: `group` types the text of the numbers that stand in the slots, one for each key of the group. Stands on layout, position, pressure and text.
 ghost use mathlib.Core.Path.{_≡_};
 ghost use mathlib.Core.List.{_++_};
 ghost use Prim.Native.Nat.{_+_, _-_, _*_, _≤_};
 ghost use lib.ListN.{length, take, drop};
 ghost use Rattle.papers.specs.Names.{shown, angle, pressure, text};
 ghost use Rattle.layout.specs.Record.{numberAt};
-ghost use Rattle.scope.specs.Angle.{udegOf};
 ghost use Rattle.scope.specs.Sheet.{keyLine, signedDecimal, numberText};
 ghost use Rattle.text.specs.Typing.{Types};
 ghost use Rattle.sheet.specs.Keys.{markIs, meant, slotsIn, keysFrom, keyed};
 use layout::Numbers;
-
-// Latitude and longitude, numbers of 24 bits.
-pub struct Position {
-    pub lat: i32,
-    pub lon: i32,
-}
+use position::Position;
 
 // The resolution, a flag, and the altitude, a number of 14 bits.
 pub struct Altitude {
@@ -55,45 +49,17 @@ fn offset_at(numbers: &Numbers, slot: usize) -> Offset
 }
 
 // A line whose key is a name and a further name.
-fn pair(name: &[u8], more: &[u8], z: i64, at: usize, buf: &mut [u8; 4096]) -> usize
-    ensures { λ r. ⌜ Types (keyLine (now (name .entry) ++ now (more .entry)) (signedDecimal z)) (now (buf .entry)) at (now (buf .exit)) r ⌝ }
-{
-    let behind = text::word(name, at, &mut *buf);
-    text::signed_pair(more, z, behind, &mut *buf)
-}
-
 fn number(name: &[u8], more: &[u8], n: i32, at: usize, buf: &mut [u8; 4096]) -> usize
     ensures { λ r. ⌜ Types (keyLine (now (name .entry) ++ now (more .entry)) (signedDecimal n)) (now (buf .entry)) at (now (buf .exit)) r ⌝ }
 {
-    pair(name, more, n as i64, at, &mut *buf)
+    let behind = text::word(name, at, &mut *buf);
+    text::signed_pair(more, n as i64, behind, &mut *buf)
 }
 
 fn alone(name: &[u8], n: i32, at: usize, buf: &mut [u8; 4096]) -> usize
     ensures { λ r. ⌜ Types (numberText (shown (now (name .entry))) n) (now (buf .entry)) at (now (buf .exit)) r ⌝ }
 {
     number(name, b"", n, at, &mut *buf)
-}
-
-// A latitude or a longitude, and its angle under a further name of its own.
-fn coordinate(
-    name: &[u8],
-    more: &[u8],
-    udeg: &[u8],
-    n: i32,
-    at: usize,
-    buf: &mut [u8; 4096],
-) -> usize
-    ensures { λ r. ⌜ Types (keyLine (now (name .entry) ++ now (more .entry)) (signedDecimal n) ++ keyLine (now (name .entry) ++ now (udeg .entry)) (signedDecimal (udegOf n))) (now (buf .entry)) at (now (buf .exit)) r ⌝ }
-{
-    let next = number(name, more, n, at, &mut *buf);
-    pair(name, udeg, angle::udeg(n), next, &mut *buf)
-}
-
-fn position_lines(name: &[u8], p: Position, at: usize, buf: &mut [u8; 4096]) -> usize
-    ensures { λ r. ⌜ Types (numberText (angle (now (name .entry) ++ text ".LAT")) (p .lat) ++ numberText (angle (now (name .entry) ++ text ".LON")) (p .lon)) (now (buf .entry)) at (now (buf .exit)) r ⌝ }
-{
-    let next = coordinate(name, b".LAT", b".LAT.udeg", p.lat, at, &mut *buf);
-    coordinate(name, b".LON", b".LON.udeg", p.lon, next, &mut *buf)
 }
 
 fn altitude_lines(name: &[u8], a: Altitude, at: usize, buf: &mut [u8; 4096]) -> usize
@@ -124,7 +90,7 @@ fn marked(
     ensures { λ r. ⌜ Types (keyed (meant mark (now (name .entry))) (now (numbers .entry)) slot) (now (buf .entry)) at (now (buf .exit)) r ⌝ }
 {
     match mark {
-        b'@' => position_lines(name, position_at(numbers, slot), at, &mut *buf),
+        b'@' => position::lines(name, position_at(numbers, slot), at, &mut *buf),
         b'>' => altitude_lines(name, altitude_at(numbers, slot), at, &mut *buf),
         b'<' => {
             let o = offset_at(numbers, slot);

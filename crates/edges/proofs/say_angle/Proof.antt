@@ -15,11 +15,13 @@ cast-signed c =
 
 array-share-prefix-buf : tie.Need-array-share-prefix-buf
 array-share-prefix-buf c =
-    let s = c .before .before in
-    let w = s .before .before .before in
-    let n = w .before .before .before in
+    let l = c .before .before in
+    let w = l .before .before .before in
+    let u = w .before .before .before in
+    let v = u .before .before .before .before in
+    let n = v .before .before .before in
     let f = n .before .before in
-    types-within (types-behind (f .word .ensures) (types-behind (n .signed .ensures) (types-behind (w .word2 .ensures) (types-behind (s .signed2 .ensures) (c .line-end .ensures))))) (sym (f .before .before .before .buffer .ensures)) (omega arith)
+    types-within (types-behind (f .word .ensures) (types-behind (n .signed .ensures) (types-behind (v .word2 .ensures) (types-behind (u .signed2 .ensures) (types-behind (w .word3 .ensures) (types-behind (l .signed3 .ensures) (c .line-end .ensures))))))) (sym (f .before .before .before .buffer .ensures)) (omega arith)
 
 slice-aggregate-say : tie.Need-slice-aggregate-say
 slice-aggregate-say c = let a = c .before in sym (length-take-le _ _ (array-share-prefix-buf a))
@@ -35,6 +37,9 @@ say-angle-spec =
     (λ c κs. tt)
     (λ c. search needs)
     (λ c κs. tt)
+    (λ c κs. tt)
+    (λ c κs. tt)
+    (λ c. search needs)
     (λ c κs. tt)
     (λ c κs. tt)
     (λ c κs. tt)

@@ -1,4 +1,4 @@
--- The longest sheet has 989 octets: that of a full field of category 21. The longest of category 48 has 959, that of category 7 has 571.
+-- The longest sheet has 1,055 octets: that of a full field of category 48. The longest of category 21 has 989, that of category 7 has 619.
 use mathlib.Core.Path.{_≡_, refl, sym, subst}
 use mathlib.Core.Bool.{Bool, true, false, _&&_}
 use mathlib.Core.List.{List, [], _∷_, _++_, map, append-assoc, append-nil}
@@ -31,7 +31,7 @@ use Rattle.papers.specs.Cat007.{cat007}
 use Rattle.papers.specs.Names.{text, Key, Named, names048, names021, names007, namesOf}
 use Rattle.papers.specs.Papers.{known, paperOf, longestOf}
 use Rattle.papers.specs.Laws.Papers.{by-paper, good-paper}
-use Rattle.scope.specs.Angle.{udegOf}
+use Rattle.scope.specs.Angle.{udegOf, leftOf}
 use Rattle.scope.specs.Pressure.{eqZ, senseOf}
 use Rattle.scope.specs.Reading.{fieldOf}
 use Rattle.scope.specs.Sheet.{decimal, signedDecimal, keyLine, numbersText, linesThere, linesText, chainText, itemText, rowText, itemsText, refusalText, sheetOf}
@@ -262,7 +262,7 @@ accepted-most cat s o r e =
     (line-most (text "end") (text "ok") {n = 2} (omega arith))))))
 
 -- the longest of each category
-pub longest-sheets : (mostSheet 48 ≡ 959) × (mostSheet 21 ≡ longestSheet) × (mostSheet 7 ≡ 571)
+pub longest-sheets : (mostSheet 48 ≡ longestSheet) × (mostSheet 21 ≡ 989) × (mostSheet 7 ≡ 619)
 unfolding mostSheet signedDecimal udegOf namesOf names048 names021 names007 paperOf cat048 cat021 cat007 linesOf longest octetsOf
 longest-sheets = (refl, refl, refl)
 
@@ -286,7 +286,7 @@ refusal-most key value n p h =
     append-most (keyLine key value) _ (line-most key value h)
     (append-most (keyLine (text "refused") (decimal n)) _ (decimal-line (text "refused") n) (decimal-line (text "at") p))
 
--- no sheet at all is longer than the longest of category 21
+-- no sheet at all is longer than the longest of category 48
 pub sheet-longest : (s : List ℕ) → Octets s → length (sheetOf s) ≤ longestSheet
 unfolding sheetOf
 sheet-longest [] o = omega (arith, refusal-most (text "cat") (text "none") 2 0 (omega arith))
@@ -298,20 +298,21 @@ sheet-longest (cat ∷ s) o = go (fieldOf cat s) refl
 
 -- ---- and some are as long
 
--- M5N, M4E, RPC and ERR with every part and every subfield, each number at its longer end; categories 48 and 7 have them alike
+-- M5N, M4E, RPC and ERR with every part and every subfield, each number at its longer end, but the position eight steps above its lower one: the ends leave 0,
+-- there the three lines of each coordinate are longest at once. Categories 48 and 7 have them alike
 abbrev fullItems : List ℕ
 fullItems =
-    0xFF ∷ 0x80 ∷ 0x00 ∷ 0x3F ∷ 0xFF ∷ 0x07 ∷ 0xFF ∷ 0xC0 ∷ 0x00 ∷ 0x00 ∷ 0x80 ∷ 0x00 ∷ 0x00 ∷ 0x1F ∷ 0xFF ∷ 0x0F ∷ 0xFF ∷ 0x80 ∷ 0x00 ∷ 0x1F ∷ 0x00 ∷ 0xF0 ∷ replicate 10 0xFF
+    0xFF ∷ 0x80 ∷ 0x00 ∷ 0x3F ∷ 0xFF ∷ 0x07 ∷ 0xFF ∷ 0xC0 ∷ 0x00 ∷ 0x08 ∷ 0x80 ∷ 0x00 ∷ 0x08 ∷ 0x1F ∷ 0xFF ∷ 0x0F ∷ 0xFF ∷ 0x80 ∷ 0x00 ∷ 0x1F ∷ 0x00 ∷ 0xF0 ∷ replicate 10 0xFF
 
 -- a field of each category with every item, likewise full, behind its category
 unfoldable pub fullest : List (List ℕ)
 fullest =
-    (48 ∷ 52 ∷ 0xF8 ∷ 0xFE ∷ 0x00 ∷ 0x3F ∷ 0xFF ∷ 0x1F ∷ 0x3F ∷ 0xC0 ∷ 0x00 ∷ 0x00 ∷ 0x80 ∷ 0x00 ∷ 0x00 ∷ 0x1F ∷ 0xFF ∷ 0x0F ∷ 0xFF ∷ 0x80 ∷ 0x00 ∷ fullItems)
+    (48 ∷ 52 ∷ 0xF8 ∷ 0xFE ∷ 0x00 ∷ 0x3F ∷ 0xFF ∷ 0x1F ∷ 0x3F ∷ 0xC0 ∷ 0x00 ∷ 0x08 ∷ 0x80 ∷ 0x00 ∷ 0x08 ∷ 0x1F ∷ 0xFF ∷ 0x0F ∷ 0xFF ∷ 0x80 ∷ 0x00 ∷ fullItems)
     ∷ (21 ∷ 31 ∷ 0xFF ∷ 0x0F ∷ 0xFF ∷ 0x03 ∷ 0xFF ∷ 0x00 ∷ 0x1F ∷ 0x0F ∷ 0xFF ∷ 0xFE ∷ replicate 5 0x01 ++ 0x7C ∷ 0xFF ∷ 0xFF ∷ 0xFC ∷ 0x00 ∷ 0x3F ∷ 0xFF ∷ 0x07 ∷ 0xFF ∷ 0x0F ∷ 0xFF ∷ 0x00 ∷ 0x1F ∷ 0x0F ∷ 0xFF ∷ [])
     ∷ (7 ∷ 38 ∷ 0xF8 ∷ 0x20 ∷ 0x00 ∷ 0x20 ∷ 0x00 ∷ fullItems)
     ∷ []
 
 -- their sheets have as many octets
-pub some-as-long : map {B = Bool × ℕ} (λ s. (areBytes s, length (sheetOf s))) fullest ≡ (true, 959) ∷ (true, longestSheet) ∷ (true, 571) ∷ []
-unfolding fullest sheetOf udegOf senseOf eqZ namesOf names048 names021 names007 linesOf fieldOf known paperOf cat048 cat021 cat007 lenOf readFrame body indicator allZero row uncons item chain beside subfields isOne lineCodec cells number toNum toSigned limit widths count clear nums inLimits cut join
+pub some-as-long : map {B = Bool × ℕ} (λ s. (areBytes s, length (sheetOf s))) fullest ≡ (true, longestSheet) ∷ (true, 989) ∷ (true, 619) ∷ []
+unfolding fullest sheetOf udegOf leftOf senseOf eqZ namesOf names048 names021 names007 linesOf fieldOf known paperOf cat048 cat021 cat007 lenOf readFrame body indicator allZero row uncons item chain beside subfields isOne lineCodec cells number toNum toSigned limit widths count clear nums inLimits cut join
 some-as-long = refl

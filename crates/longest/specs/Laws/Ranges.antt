@@ -15,8 +15,9 @@ use Rattle.codec.specs.Signed.{inSigned}
 use Rattle.codec.specs.Line.{Kind, plain, signed, limited, Piece, spare, num, inNum, limit, fitNums, inLimits}
 use Rattle.codec.specs.Laws.Tests.{and-l, and-r}
 use Rattle.papers.specs.Names.{text, Key, hidden, shown, angle, pressure}
-use Rattle.scope.specs.Angle.{rounded, udegOf}
+use Rattle.scope.specs.Angle.{rounded, udegOf, leftOf}
 use Rattle.scope.specs.Pressure.{eqZ, tenthsOf, senseOf}
+use Rattle.scope.specs.Laws.Angle.{left-within}
 use Rattle.scope.specs.Sheet.{decimal, signedDecimal, keyLine, numberText, numbersText}
 use Rattle.text.specs.Laws.Decimals.{decimal-longer}
 
@@ -56,7 +57,15 @@ angle-rises (pos m) (negsuc n) h = absurd h
 angle-rises (negsuc m) (pos n) h = negated-below (rounded (suc m)) (rounded n)
 angle-rises (negsuc m) (negsuc n) h = negated-falls (rounded (suc n)) (rounded (suc m)) (omega (arith, leb→le n m h))
 
--- ---- nor a smaller pressure
+-- ---- what the angle leaves does not rise with the number: its line is bounded by half a step to either side, and not by the ends
+
+abbrev longestLeft : ℕ
+longestLeft = longer (negsuc 16_383) (pos 16_384)
+
+left-most : (z : ℤ) → length (signedDecimal (leftOf z)) ≤ longestLeft
+left-most z = let w = left-within z in between-longer (negsuc 16_383) (leftOf z) (pos 16_384) (w .low) (w .high)
+
+-- ---- a larger number has no smaller pressure
 
 -- what is left of a number is not above it
 minus-below : (k a n : ℕ) → k ≤ n → T (leZ (subℕ k a) (pos n))
@@ -130,7 +139,7 @@ unfoldable pub mostNumber : Key → ℤ → ℤ → ℕ
 unfolding longer
 mostNumber hidden lo hi = 0
 mostNumber (shown k) lo hi = mostLine k (longer lo hi)
-mostNumber (angle k) lo hi = mostLine k (longer lo hi) + mostLine (k ++ text ".udeg") (longer (udegOf lo) (udegOf hi))
+mostNumber (angle k) lo hi = mostLine k (longer lo hi) + (mostLine (k ++ text ".udeg") (longer (udegOf lo) (udegOf hi)) + mostLine (k ++ text ".left") longestLeft)
 mostNumber (pressure k) lo hi = mostLine k (longer lo hi) + (mostLine (k ++ text ".tenths") (longer (tenthsOf lo) (tenthsOf hi)) + mostLine (k ++ text ".sense") longestSense)
 
 -- the lines of all numbers of some pieces; a spare piece has no key
@@ -159,7 +168,9 @@ number-most hidden lo z hi h k = zero-le
 number-most (shown key) lo z hi h k = signed-line key lo z hi h k
 number-most (angle key) lo z hi h k =
     append-most (keyLine key (signedDecimal z)) _ (signed-line key lo z hi h k)
+    (append-most (keyLine (key ++ text ".udeg") (signedDecimal (udegOf z))) _
     (signed-line (key ++ text ".udeg") (udegOf lo) (udegOf z) (udegOf hi) (angle-rises lo z h) (angle-rises z hi k))
+    (line-most (key ++ text ".left") (signedDecimal (leftOf z)) (left-most z)))
 number-most (pressure key) lo z hi h k =
     append-most (keyLine key (signedDecimal z)) _ (signed-line key lo z hi h k)
     (append-most (keyLine (key ++ text ".tenths") (signedDecimal (tenthsOf z))) _

@@ -11,7 +11,6 @@ use lib.ListN.{length}
 use Rattle.codec.specs.Pick.{pick}
 use Rattle.papers.specs.Names.{text, Key, hidden, shown, angle, pressure}
 use Rattle.layout.specs.Record.{numberAt}
-use Rattle.scope.specs.Angle.{udegOf}
 use Rattle.scope.specs.Sheet.{keyLine, signedDecimal, pressureText, numberText}
 use Rattle.text.specs.Typing.{Types}
 use Rattle.text.specs.Laws.Typing.{types-as, types-behind, types-none}
@@ -22,15 +21,6 @@ use Rattle.sheet.specs.Keys.{markIs, meant, slotsIn, keyed}
 pub alone-key : (name : List ℕ) (z : ℤ) {l m : List ℕ} {at next : ℕ} → Types (keyLine (name ++ []) (signedDecimal z)) l at m next → Types (numberText (shown name) z) l at m next
 unfolding numberText
 alone-key name z a = types-as (ap (λ k. keyLine k (signedDecimal z)) (append-nil name)) a
-
--- the angle stands under the coordinate's own key; y is the number as the machine has it
-pub coordinate-key : (name more : List ℕ) (z : ℤ) {y : ℤ} → y ≡ z → {l m : List ℕ} {at next : ℕ}
-    → Types (keyLine (name ++ more) (signedDecimal y) ++ keyLine (name ++ (more ++ text ".udeg")) (signedDecimal (udegOf y))) l at m next
-    → Types (numberText (angle (name ++ more)) z) l at m next
-unfolding numberText
-coordinate-key name more z e a =
-    types-as (ap (λ x. keyLine (name ++ more) (signedDecimal x) ++ keyLine (name ++ (more ++ text ".udeg")) (signedDecimal (udegOf x))) e
-    ∙ ap (λ k. keyLine (name ++ more) (signedDecimal z) ++ keyLine k (signedDecimal (udegOf z))) (sym (append-assoc name more (text ".udeg")))) a
 
 pub altitude-key : (name more : List ℕ) (z : ℤ) {y : ℤ} → y ≡ z → {l m : List ℕ} {at next : ℕ} → Types (keyLine (name ++ more) (signedDecimal y)) l at m next → Types (numberText (shown (name ++ more)) z) l at m next
 unfolding numberText

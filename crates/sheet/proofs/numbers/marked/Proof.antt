@@ -12,7 +12,7 @@ returns c =
     let p = c .before .before in
     let m = p .before in
     let a = m .before .before .args in
-    keyed-two (now (a .numbers)) (a .slot) (meant-position (a .mark) (now (a .name)) (m .match .keys1)) (p .position-at .ensures .0) (p .position-at .ensures .1) (c .position-lines .ensures)
+    keyed-two (now (a .numbers)) (a .slot) (meant-position (a .mark) (now (a .name)) (m .match .keys1)) (p .position-at .ensures .0) (p .position-at .ensures .1) (c .lines .ensures)
 
 returns-2 : tie.Need-returns-2
 returns-2 c =

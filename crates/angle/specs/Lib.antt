@@ -1,0 +1,2 @@
+-- What the code adds before it divides.
+pub mod Half
