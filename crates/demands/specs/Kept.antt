@@ -13,6 +13,7 @@ pub mod Edits
 pub mod Visitors
 pub mod Members
 pub mod Pressure
+pub mod Lines
 pub mod Leftovers
 
 pub kept : Demands program

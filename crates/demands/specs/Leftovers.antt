@@ -1,7 +1,30 @@
--- The exact angle (02, Ask 7), its sentences quoted above the statements. `Exact n r l` (Angles) says of r millionths and a
--- leftover l that they are those of the number n.
-use Rattle.demands.specs.Terms.{_≡_, ℤ, pos, negℤ, Exact}
+-- The exact angle (02, Ask 7), its sentences quoted above the statements: first of the angles, then of a program's sheets.
+-- `Exact n r l` (Angles) says of r millionths and a leftover l that they are those of the number n.
+use Rattle.demands.specs.Terms.{_≡_, _≢_, List, [], _∷_, _++_, ℕ, _≤_, ℤ, pos, negℤ, length, Exact}
+use Rattle.demands.specs.Terms.{sheetOf, keyLine, text, signedDecimal, handedOut}
 use Rattle.demands.specs.Demands.{Program}
+
+-- s stands nowhere in a word; no word ends in it
+abbrev pub Nowhere : List ℕ → List ℕ → Type 0
+Nowhere s word = (before behind : List ℕ) → word ≢ before ++ (s ++ behind)
+
+abbrev pub NotLast : List ℕ → List ℕ → Type 0
+NotLast s word = (before : List ℕ) → word ≢ before ++ s
+
+-- a line's key ends at its `=` and its value at its line feed, so a text has its lines in one way
+pub record LineKey (key : List ℕ) : Type 0 where
+  pub in-line : Nowhere (text "\n") key
+  pub before-sign : Nowhere (text "=") key
+
+-- a text made of lines, each of these: a latitude or a longitude with its `.udeg` and its `.left` behind it, or something else
+pub data Lines : List ℕ → Type 0 where
+  none : Lines []
+  angle : {key rest : List ℕ} (n r l : ℤ) → LineKey key → Exact n r l → Lines rest
+      → Lines (keyLine key (signedDecimal n) ++ (keyLine (key ++ text ".udeg") (signedDecimal r)
+      ++ (keyLine (key ++ text ".left") (signedDecimal l) ++ rest)))
+  other : {key value rest : List ℕ} → LineKey key → Nowhere (text "\n") value
+      → NotLast (text ".LAT") key → NotLast (text ".LON") key → NotLast (text ".udeg") key → NotLast (text ".left") key
+      → Lines rest → Lines (keyLine key value ++ rest)
 
 module _ (p : Program) where
   pub record Leftovers : Type 0 where
@@ -12,5 +35,8 @@ module _ (p : Program) where
     -- "so 16,384 leaves -16,384"
     pub half-up : p .left (pos 16_384) ≡ negℤ (pos 16_384)
     pub half-down : p .left (negℤ (pos 16_384)) ≡ pos 16_384
-    -- "compares positions across software and loses the last digit": what says the same of two numbers is of one
+    -- "compares positions across software and loses the last digit": two numbers of which both are the same are one number
     pub number : (m n : ℤ) → p .udeg m ≡ p .udeg n → p .left m ≡ p .left n → m ≡ n
+    -- "The sheet gets a line ending `.left` after each `.udeg`, with the same key before it"
+    pub lines : (s out : List ℕ) → length (sheetOf s) ≤ length out
+        → (sheet : List ℕ) × (p .sheet s out ≡ handedOut sheet out) × Lines sheet
