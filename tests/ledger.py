@@ -154,8 +154,9 @@ def wrong_programs(crate, edits):
     for edit in edits:
         file = re.search(r"^file: src/(.*)$", edit.read_text(), re.M)
         for old, _ in parts(edit)[1] if file else []:
-            source = ROOT / "crates" / crate / "src" / file[1]
-            line = source.read_text().partition(old)[0].count("\n")
+            source = (ROOT / "crates" / crate / "src" / file[1]).read_text()
+            assert source.count(old) == 1, (edit, "an old text stands there once")
+            line = source.partition(old)[0].count("\n")
             inside = [name for item, name, _, at, _ in items if item == file[1] and at <= line]
             touched.setdefault(inside[-1], []).append(edit.stem)
     return {name: list(dict.fromkeys(edit for item in sorted(reached(name, named)) for edit in touched.get(item, [])))

@@ -236,6 +236,8 @@ def covered():
     assert places[None, 1] == {0}
     assert {1, 2, 255, 256, 257, 300} <= {len(given) for given in made}
     assert {"351563", "-351563", "21", "90000000"} <= seen[48, "MD5.POS.LAT.udeg"] and "-180000000" in seen[48, "M5N.POS.LON.udeg"]
-    assert {"0", "16384", "-16384", "14997", "-14997", "1387", "-1387"} <= seen[48, "MD5.POS.LAT.left"] & seen[48, "M5N.POS.LON.left"]
+    for where in (48, "MD5"), (48, "M5N"), (7, "M5N"):
+        for name in ("LAT", "LON"):
+            assert {"0", "16384", "-16384", "14997", "-14997", "1387", "-1387"} <= seen[where[0], f"{where[1]}.POS.{name}.left"]
     assert {"8000", "8001", "9999", "10000", "12094", "12095"} <= seen[21, "BPS.tenths"]
     assert seen[21, "BPS.sense"] == {"atmost", "equal", "atleast"}

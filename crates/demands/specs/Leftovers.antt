@@ -1,6 +1,6 @@
 -- The exact angle (02, Ask 7), its sentences quoted above the statements: first of the angles, then of a program's sheets.
 -- `Exact n r l` (Angles) says of r millionths and a leftover l that they are those of the number n.
-use Rattle.demands.specs.Terms.{_≡_, _≢_, List, [], _∷_, _++_, ℕ, _≤_, ℤ, pos, negℤ, length, Exact}
+use Rattle.demands.specs.Terms.{_≡_, _≢_, List, [], _++_, ℕ, _≤_, ℤ, pos, negℤ, length, Exact}
 use Rattle.demands.specs.Terms.{sheetOf, keyLine, text, signedDecimal, handedOut}
 use Rattle.demands.specs.Demands.{Program}
 
@@ -16,10 +16,16 @@ pub record LineKey (key : List ℕ) : Type 0 where
   pub in-line : Nowhere (text "\n") key
   pub before-sign : Nowhere (text "=") key
 
--- a text made of lines, each of these: a latitude or a longitude with its `.udeg` and its `.left` behind it, or something else
+-- the key of a latitude or of a longitude
+pub data Coordinate : List ℕ → Type 0 where
+  latitude : (item : List ℕ) → Coordinate (item ++ text ".LAT")
+  longitude : (item : List ℕ) → Coordinate (item ++ text ".LON")
+
+-- a text made of lines, each of these: a latitude or a longitude with its `.udeg` and its `.left` behind it, or something else.
+-- Which numbers stand on a sheet is said by `listed` (Demands), which has every octet of it
 pub data Lines : List ℕ → Type 0 where
   none : Lines []
-  angle : {key rest : List ℕ} (n r l : ℤ) → LineKey key → Exact n r l → Lines rest
+  angle : {key rest : List ℕ} (n r l : ℤ) → LineKey key → Coordinate key → Exact n r l → Lines rest
       → Lines (keyLine key (signedDecimal n) ++ (keyLine (key ++ text ".udeg") (signedDecimal r)
       ++ (keyLine (key ++ text ".left") (signedDecimal l) ++ rest)))
   other : {key value rest : List ℕ} → LineKey key → Nowhere (text "\n") value

@@ -10,7 +10,7 @@ fn main() {
     choose_items();
     choose_refusals();
     say_angles();
-    say_angles_of_ends();
+    say_more_angles();
     read_worked_field();
 }
 
@@ -90,7 +90,7 @@ fn say_angles() {
 }
 
 // The neighbours of a half, the other end of the latitude, both ends of the longitude, and zero between them.
-fn say_angles_of_ends() {
+fn say_more_angles() {
     say_angle(16_383);
     say_angle(16_385);
     say_angle(-4_194_304);
@@ -116,11 +116,11 @@ fn say_angle(n: i32) {
     let mut buf = io::buffer();
     let number = text::word(b"angle ", 0, &mut buf);
     let arrow = text::signed(n as i64, number, &mut buf);
-    let udeg = text::word(b" -> ", arrow, &mut buf);
+    let udeg_at = text::word(b" -> ", arrow, &mut buf);
     let angle = angle::exact(n);
-    let left = text::signed(angle.udeg, udeg, &mut buf);
-    let behind = text::word(b" left ", left, &mut buf);
-    let end = text::signed(angle.left, behind, &mut buf);
+    let behind = text::signed(angle.udeg, udeg_at, &mut buf);
+    let left_at = text::word(b" left ", behind, &mut buf);
+    let end = text::signed(angle.left, left_at, &mut buf);
     let last = text::line_end(end, &mut buf);
     say(&buf[..last]);
 }

@@ -14,8 +14,8 @@ use Rattle.papers.specs.Cat048.{printed048}
 use Rattle.papers.specs.Cat021.{printed021}
 use Rattle.papers.specs.Cat007.{printed007}
 
--- how a number stands on the sheet: not at all, as a presence flag; alone; with its angle behind it; with its
--- pressure behind it
+-- how a number stands on the sheet: not at all, as a presence flag; alone; with its angle and what that leaves behind
+-- it; with its pressure behind it
 pub data Key : Type 0 where
   hidden : Key
   shown : List ℕ → Key

@@ -4,7 +4,7 @@ ghost use mathlib.Core.Path.{_≡_};
 ghost use mathlib.Core.List.{_++_};
 ghost use Prim.Native.Nat.{_+_, _-_, _*_, _≤_};
 ghost use lib.ListN.{length, take, drop};
-ghost use Rattle.papers.specs.Names.{shown, angle, pressure, text};
+ghost use Rattle.papers.specs.Names.{shown, pressure, text};
 ghost use Rattle.layout.specs.Record.{numberAt};
 ghost use Rattle.scope.specs.Sheet.{keyLine, signedDecimal, numberText};
 ghost use Rattle.text.specs.Typing.{Types};

@@ -12,7 +12,6 @@ use lib.Signed.{mag, ltZ, quotZ}
 use mir.Syntax.{w32, w64}
 use mir.Val.{SFits, toZ, ofZ}
 use mir.Facts.{toZ-ofZ, sfits-widen}
-use Rattle.codec.specs.Pick.{pick}
 use Rattle.scope.specs.Angle.{rounded, udegOf, leftOf}
 use Rattle.scope.specs.Laws.Angle.{negated-times}
 use Rattle.angle.specs.Half.{halfOf}
@@ -65,7 +64,7 @@ half-small : (y : ℤ) → mag (halfOf y) ≤ 1_000_000
 unfolding halfOf
 half-small y = go (ltZ y (pos 0))
   where
-    go : (t : Bool) → mag (pick t (negsuc 16_383) (pos 16_384)) ≤ 1_000_000
+    go : (t : Bool) → mag (cond t (negsuc 16_383) (pos 16_384)) ≤ 1_000_000
     go true = omega arith
     go false = omega arith
 

@@ -1,6 +1,5 @@
 -- 02, Ask 7 of the defined program: its angles and leftovers are exact, no others are, and its sheets have them together.
-use mathlib.Core.Path.{_≡_, refl, sym, subst₂}
-use lib.IntN.{ℤ, pos, negsuc}
+use mathlib.Core.Path.{refl, subst₂}
 use Rattle.scope.specs.Angle.{rounded, udegOf, leftOf}
 use Rattle.scope.specs.Sheet.{sheetOf}
 use Rattle.demands.specs.Angles.{Exact, exact-angle, one-exact, exact-number}

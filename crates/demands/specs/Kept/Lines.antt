@@ -1,13 +1,13 @@
 -- Every sheet is made of lines in which an angle's three stand together (Leftovers: Lines), level by level as scope defines it.
-use mathlib.Core.Path.{_≡_, refl, sym, ap, _∙_, subst}
-use mathlib.Core.Bool.{Bool, true, false, not, _&&_}
+use mathlib.Core.Path.{_≡_, refl, sym, ap, ap₂, _∙_, subst}
+use mathlib.Core.Bool.{Bool, true, false, not, _&&_, _||_}
 use mathlib.Core.List.{List, [], _∷_, _++_, append-assoc, append-nil}
 use Prim.Native.Nat.{ℕ, zero, suc, _+_, _-_, _/_, _%_}
 use native.Mathlib.Omega.{arith}
 use borrow.Author.Tests.{ne-eqb}
-use lib.Dec.{T, ltb, eqb, eqb-refl}
+use lib.Dec.{T, ltb, eqb, eqb→eq, eqb-refl}
 use lib.IntN.{ℤ, pos, negsuc}
-use lib.ListN.{length, take, drop, length-append}
+use lib.ListN.{length, take, drop, length-append, take-append-drop}
 use lib.Seq.{drop-at}
 use Rattle.codec.specs.Pick.{pick}
 use Rattle.codec.specs.Line.{Line, Held, count}
@@ -16,7 +16,7 @@ use Rattle.codec.specs.Field.{firstFlag, nextFlags, uncons, flags, Contents}
 use Rattle.codec.specs.Frame.{Outcome, accepted, refused}
 use Rattle.codec.specs.Meaning.{lenOf}
 use Rattle.codec.specs.Printed.{sameText}
-use Rattle.codec.specs.Laws.Tests.{and-in, and-l, and-r, holds}
+use Rattle.codec.specs.Laws.Tests.{and-in, and-l, and-r}
 use Rattle.papers.specs.Names.{text, Key, hidden, shown, angle, pressure, Named, names048, names021, names007, namesOf}
 use Rattle.papers.specs.Papers.{paperOf}
 use Rattle.scope.specs.Angle.{udegOf, leftOf}
@@ -25,7 +25,7 @@ use Rattle.scope.specs.Reading.{fieldOf}
 use Rattle.scope.specs.Sheet.{digitsOf, decimal, signedDecimal, keyLine, numberText, numbersText, linesThere, linesText}
 use Rattle.scope.specs.Sheet.{chainText, itemText, rowText, itemsText, refusalText, fieldText, sheetOf}
 use Rattle.demands.specs.Angles.{exact-angle}
-use Rattle.demands.specs.Leftovers.{Nowhere, NotLast, LineKey, Lines, none, angle as three, other}
+use Rattle.demands.specs.Leftovers.{Nowhere, NotLast, LineKey, Coordinate, latitude, longitude, Lines, none, angle as three, other}
 
 -- ---- tests of a word, which the names of the papers are computed by
 
@@ -61,6 +61,25 @@ ends-last s before =
 not-last : (s word : List ℕ) → T (not (ends s word)) → NotLast s word
 not-last s word t before e = apart (ends s word) (subst (λ w. T (ends s w)) (sym e) (ends-last s before)) t
 
+text-same : (xs ys : List ℕ) → T (sameText xs ys) → xs ≡ ys
+text-same [] [] t = refl
+text-same [] (y ∷ ys) t = absurd t
+text-same (x ∷ xs) [] t = absurd t
+text-same (x ∷ xs) (y ∷ ys) t = ap₂ _∷_ (eqb→eq x y (and-l (eqb x y) _ t)) (text-same xs ys (and-r (eqb x y) _ t))
+
+last-is : (s word : List ℕ) → T (ends s word) → take (length word - length s) word ++ s ≡ word
+unfolding ends
+last-is s word t =
+    let n = length word - length s in
+    ap (take n word ++_) (sym (text-same (drop n word) s t)) ∙ take-append-drop n word
+
+coordinate : (key : List ℕ) → T (ends (text ".LAT") key || ends (text ".LON") key) → Coordinate key
+coordinate key t = go (ends (text ".LAT") key) refl t
+  where
+    go : (b : Bool) → ends (text ".LAT") key ≡ b → T (b || ends (text ".LON") key) → Coordinate key
+    go true e u = subst Coordinate (last-is (text ".LAT") key (subst T (sym e) tt)) (latitude (take (length key - 4) key))
+    go false e u = subst Coordinate (last-is (text ".LON") key u) (longitude (take (length key - 4) key))
+
 lacks-append : (c : ℕ) (xs ys : List ℕ) → T (lacks c xs) → T (lacks c ys) → T (lacks c (xs ++ ys))
 unfolding lacks
 lacks-append c [] ys t u = u
@@ -83,12 +102,12 @@ line-key key t = record { in-line = nowhere 10 key (and-l (lacks 10 key) _ t); b
 
 lines-append : {xs ys : List ℕ} → Lines xs → Lines ys → Lines (xs ++ ys)
 lines-append none b = b
-lines-append {ys = ys} (three {key} {rest} n r l k e a) b =
+lines-append {ys = ys} (three {key} {rest} n r l k c e a) b =
     let x = keyLine key (signedDecimal n) in
     let y = keyLine (key ++ text ".udeg") (signedDecimal r) in
     let z = keyLine (key ++ text ".left") (signedDecimal l) in
     subst Lines (sym (append-assoc x (y ++ (z ++ rest)) ys ∙ ap (x ++_) (append-assoc y (z ++ rest) ys ∙ ap (y ++_) (append-assoc z rest ys))))
-    (three n r l k e (lines-append a b))
+    (three n r l k c e (lines-append a b))
 lines-append {ys = ys} (other {key} {value} {rest} k v p q u w a) b =
     subst Lines (sym (append-assoc (keyLine key value) rest ys)) (other k v p q u w (lines-append a b))
 
@@ -138,10 +157,10 @@ sense-feed z = go (eqZ z (pos 0)) (eqZ z (pos 4_095))
 -- ---- the names of the papers
 
 unfoldable fineKey : Key → Bool
-unfolding keyed plain
+unfolding keyed plain ends
 fineKey hidden = true
 fineKey (shown k) = plain k
-fineKey (angle k) = keyed k
+fineKey (angle k) = keyed k && (ends (text ".LAT") k || ends (text ".LON") k)
 fineKey (pressure k) = plain k && (plain (k ++ text ".tenths") && plain (k ++ text ".sense"))
 
 unfoldable fineKeys : List Key → Bool
@@ -182,7 +201,7 @@ number-lines (shown k) z t = line k (signedDecimal z) t (signed-feed z)
 number-lines (angle k) z t =
     let left = keyLine (k ++ text ".left") (signedDecimal (leftOf z)) in
     subst (λ x. Lines (keyLine k (signedDecimal z) ++ (keyLine (k ++ text ".udeg") (signedDecimal (udegOf z)) ++ x))) (append-nil left)
-    (three z (udegOf z) (leftOf z) (line-key k t) (exact-angle z) none)
+    (three z (udegOf z) (leftOf z) (line-key k (and-l (keyed k) _ t)) (coordinate k (and-r (keyed k) _ t)) (exact-angle z) none)
 number-lines (pressure k) z t =
     let u = and-r (plain k) _ t in
     lines-append (line k (signedDecimal z) (and-l (plain k) _ t) (signed-feed z))

@@ -1,4 +1,5 @@
--- A number stands between the ends of its piece, so the lines of a number have no more octets than those of its longer end.
+-- A number stands between the ends of its piece, so its line has no more octets than that of its longer end; likewise its angle and its pressure. What the
+-- angle leaves, and the sense of a pressure, have bounds of their own.
 use mathlib.Core.Path.{_≡_, refl}
 use mathlib.Core.Bool.{Bool, true, false, cond}
 use mathlib.Core.List.{List, [], _∷_, _++_}
