@@ -22,6 +22,7 @@ fn half(product: i64) -> i64
     16_384
 }
 
+// The millionths are the product's nearest whole part, and the leftover is what remains of that very product.
 pub fn exact(n: i32) -> Angle
     ensures { λ r. ⌜ (r .udeg ≡ udegOf n) × (r .left ≡ leftOf n) ⌝ }
 {

@@ -1,10 +1,10 @@
--- The exact angle (02, Ask 7), its sentences quoted above the statements: first of the angles, then of a program's sheets.
+-- The exact angle (02, Ask 7), its sentences quoted above the statements: of a program's angles, then of its sheets.
 -- `Exact n r l` (Angles) says of r millionths and a leftover l that they are those of the number n.
 use Rattle.demands.specs.Terms.{_≡_, _≢_, List, [], _++_, ℕ, _≤_, ℤ, pos, negℤ, length, Exact}
 use Rattle.demands.specs.Terms.{sheetOf, keyLine, text, signedDecimal, handedOut}
 use Rattle.demands.specs.Demands.{Program}
 
--- s stands nowhere in a word; no word ends in it
+-- s stands nowhere in the word; the word does not end in s
 abbrev pub Nowhere : List ℕ → List ℕ → Type 0
 Nowhere s word = (before behind : List ℕ) → word ≢ before ++ (s ++ behind)
 

@@ -37,6 +37,7 @@ fn coordinate(
     line(name, more, b".left", left, left_at, &mut *buf)
 }
 
+// The three lines of the latitude, then those of the longitude, under the item's and the subfield's name.
 pub fn lines(name: &[u8], p: Position, at: usize, buf: &mut [u8; 4096]) -> usize
     ensures { λ r. ⌜ Types (numberText (angle (now (name .entry) ++ text ".LAT")) (p .lat) ++ numberText (angle (now (name .entry) ++ text ".LON")) (p .lon)) (now (buf .entry)) at (now (buf .exit)) r ⌝ }
 {
