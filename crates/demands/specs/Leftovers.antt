@@ -21,13 +21,17 @@ pub data Coordinate : List ℕ → Type 0 where
   latitude : (item : List ℕ) → Coordinate (item ++ text ".LAT")
   longitude : (item : List ℕ) → Coordinate (item ++ text ".LON")
 
--- a text made of lines, each of these: a latitude or a longitude with its `.udeg` and its `.left` behind it, or something else.
+-- its three lines, under one key: the number, its millionths and what they leave
+abbrev pub threeLines : List ℕ → ℤ → ℤ → ℤ → List ℕ
+threeLines key n r l = keyLine key (signedDecimal n)
+    ++ (keyLine (key ++ text ".udeg") (signedDecimal r) ++ keyLine (key ++ text ".left") (signedDecimal l))
+
+-- a text made of lines: a latitude or a longitude with its `.udeg` and its `.left` behind it, or something else.
 -- Which numbers stand on a sheet is said by `listed` (Demands), which has every octet of it
 pub data Lines : List ℕ → Type 0 where
   none : Lines []
   angle : {key rest : List ℕ} (n r l : ℤ) → LineKey key → Coordinate key → Exact n r l → Lines rest
-      → Lines (keyLine key (signedDecimal n) ++ (keyLine (key ++ text ".udeg") (signedDecimal r)
-      ++ (keyLine (key ++ text ".left") (signedDecimal l) ++ rest)))
+      → Lines (threeLines key n r l ++ rest)
   other : {key value rest : List ℕ} → LineKey key → Nowhere (text "\n") value
       → NotLast (text ".LAT") key → NotLast (text ".LON") key → NotLast (text ".udeg") key → NotLast (text ".left") key
       → Lines rest → Lines (keyLine key value ++ rest)

@@ -25,7 +25,7 @@ use Rattle.scope.specs.Reading.{fieldOf}
 use Rattle.scope.specs.Sheet.{digitsOf, decimal, signedDecimal, keyLine, numberText, numbersText, linesThere, linesText}
 use Rattle.scope.specs.Sheet.{chainText, itemText, rowText, itemsText, refusalText, fieldText, sheetOf}
 use Rattle.demands.specs.Angles.{exact-angle}
-use Rattle.demands.specs.Leftovers.{Nowhere, NotLast, LineKey, Coordinate, latitude, longitude, Lines, none, angle as three, other}
+use Rattle.demands.specs.Leftovers.{Nowhere, NotLast, LineKey, Coordinate, latitude, longitude, threeLines, Lines, none, angle as three, other}
 
 -- ---- tests of a word, which the names of the papers are computed by
 
@@ -103,11 +103,7 @@ line-key key t = record { in-line = nowhere 10 key (and-l (lacks 10 key) _ t); b
 lines-append : {xs ys : List ℕ} → Lines xs → Lines ys → Lines (xs ++ ys)
 lines-append none b = b
 lines-append {ys = ys} (three {key} {rest} n r l k c e a) b =
-    let x = keyLine key (signedDecimal n) in
-    let y = keyLine (key ++ text ".udeg") (signedDecimal r) in
-    let z = keyLine (key ++ text ".left") (signedDecimal l) in
-    subst Lines (sym (append-assoc x (y ++ (z ++ rest)) ys ∙ ap (x ++_) (append-assoc y (z ++ rest) ys ∙ ap (y ++_) (append-assoc z rest ys))))
-    (three n r l k c e (lines-append a b))
+    subst Lines (sym (append-assoc (threeLines key n r l) rest ys)) (three n r l k c e (lines-append a b))
 lines-append {ys = ys} (other {key} {value} {rest} k v p q u w a) b =
     subst Lines (sym (append-assoc (keyLine key value) rest ys)) (other k v p q u w (lines-append a b))
 
@@ -199,8 +195,7 @@ unfolding numberText fineKey
 number-lines hidden z t = none
 number-lines (shown k) z t = line k (signedDecimal z) t (signed-feed z)
 number-lines (angle k) z t =
-    let left = keyLine (k ++ text ".left") (signedDecimal (leftOf z)) in
-    subst (λ x. Lines (keyLine k (signedDecimal z) ++ (keyLine (k ++ text ".udeg") (signedDecimal (udegOf z)) ++ x))) (append-nil left)
+    subst Lines (append-nil (threeLines k z (udegOf z) (leftOf z)))
     (three z (udegOf z) (leftOf z) (line-key k (and-l (keyed k) _ t)) (coordinate k (and-r (keyed k) _ t)) (exact-angle z) none)
 number-lines (pressure k) z t =
     let u = and-r (plain k) _ t in
