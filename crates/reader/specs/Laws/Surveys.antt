@@ -20,6 +20,7 @@ use Rattle.codec.specs.Laws.Codec.{octets-drop, octets-take, lawful-opt}
 use Rattle.codec.specs.Laws.Item.{only-nothing, lawful-item}
 use Rattle.codec.specs.Laws.Field.{length-texts}
 use Rattle.codec.specs.Laws.View.{before-next}
+use Rattle.codec.specs.Laws.Sets.{drop-replicate}
 use Rattle.papers.specs.Papers.{paperOf, itemsOf}
 use Rattle.papers.specs.Laws.Papers.{good-paper, few-items}
 use Rattle.layout.specs.declared.Answer.{Answer}
@@ -30,7 +31,7 @@ use Rattle.spots.specs.Laws.Spots.{spots-right}
 use Rattle.layout.specs.declared.Surveyed.{Surveyed}
 use Rattle.reader.specs.Rows.{placeRun, Found, found, goOn, rowFrom}
 use Rattle.reader.specs.Fields.{walkOf, answerTo, outAfter, WalkStands}
-use Rattle.reader.specs.Laws.Whole.{found-sized, drop-replicate, Walked, walked, walk-found, walk-fell, field-found, field-fell}
+use Rattle.reader.specs.Laws.Whole.{found-sized, Walked, walked, walk-found, walk-fell, field-found, field-fell}
 
 -- ---- where the texts begin
 

@@ -8,7 +8,6 @@ use borrow.Author.Tests.{ltb-false, eqb-true}
 use lib.Dec.{ltb, eqb}
 use lib.IntN.{ℤ, pos}
 use lib.ListN.{length, getD, take, drop, replicate, length-append, length-replicate}
-use lib.Seq.{sets, sets-eq}
 use Rattle.codec.specs.Pick.{pick}
 use Rattle.codec.specs.Codec.{Res, got, bad}
 use Rattle.codec.specs.Line.{Held}
@@ -17,6 +16,7 @@ use Rattle.codec.specs.Field.{firstFlag, nextFlags, flags, allZero}
 use Rattle.codec.specs.Frame.{Outcome, accepted, refused}
 use Rattle.codec.specs.Meaning.{lenOf}
 use Rattle.codec.specs.Laws.Long.{LongBy, many}
+use Rattle.codec.specs.Laws.Sets.{set-front}
 use Rattle.codec.specs.Laws.Frame.{mapOutcome}
 use Rattle.papers.specs.Papers.{known, paperOf, itemsOf, SLOTS, allSlots}
 use Rattle.papers.specs.Laws.Papers.{few-items, few-slots}
@@ -42,17 +42,6 @@ ready-zeros = record { len = length-replicate SLOTS (pos 0); zeros = λ j h. zer
     zero-at zero j = refl
     zero-at (suc n) zero = refl
     zero-at (suc n) (suc j) = zero-at n j
-
-pub drop-replicate : {A : Type 0} (z : A) (i n : ℕ) → drop i (replicate n z) ≡ replicate (n - i) z
-drop-replicate z zero n = let q : n ≡ n - 0 = omega arith in ap (λ j. replicate j z) q
-drop-replicate z (suc i) zero = let q : 0 ≡ 0 - suc i = omega arith in ap (λ j. replicate j z) q
-drop-replicate z (suc i) (suc n) = let q : n - i ≡ suc n - suc i = omega arith in drop-replicate z i n ∙ ap (λ j. replicate j z) q
-
-pub set-front : {A : Type 0} (z : A) (n : ℕ) (v : List A) (k : ℕ) → length v ≡ k → k ≤ n → sets (replicate n z) 0 v ≡ v ++ replicate (n - k) z
-set-front z n v k e h =
-    let g : 0 + length v ≤ length (replicate n z) = rw (length-replicate n z) (omega arith) in
-    let q : 0 + length v ≡ length v = omega arith in
-    sets-eq v (replicate n z) 0 g ∙ ap (v ++_) (ap (λ j. drop j (replicate n z)) q ∙ drop-replicate z (length v) n ∙ ap (λ j. replicate (n - j) z) e)
 
 -- ---- how many a row finds
 

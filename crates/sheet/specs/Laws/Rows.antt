@@ -22,7 +22,7 @@ use Rattle.sheet.specs.Items.{nobody, named, namedAt, ItemTyped}
 use Rattle.sheet.specs.Rows.{namedOn, namesFrom, placeText, commaOf}
 use Rattle.papers.specs.Papers.{SLOTS}
 
-names-on : (k left : ℕ) → (left ≡ 0 → ⊥) → namesFrom k left ≡ namedOn k ∷ namesFrom (k + 1) (left - 1)
+pub names-on : (k left : ℕ) → (left ≡ 0 → ⊥) → namesFrom k left ≡ namedOn k ∷ namesFrom (k + 1) (left - 1)
 unfolding namesFrom
 names-on k zero z = absurd (z refl)
 names-on k (suc n) z = let e : n ≡ suc n - 1 = omega arith in ap (λ j. namedOn k ∷ namesFrom (k + 1) j) e

@@ -44,7 +44,7 @@ use Rattle.sheet.specs.Whole.{recordText}
 same-names : (cat c : ℕ) → cat ≡ c → namesFrom (spotOf c) (itemsOf c) ≡ namesOf c → namesFrom (spotOf cat) (itemsOf cat) ≡ namesOf cat
 same-names cat c e h = subst (λ x. namesFrom (spotOf x) (itemsOf x) ≡ namesOf x) (sym e) h
 
-names-right : (cat : ℕ) → known cat ≡ true → namesFrom (spotOf cat) (itemsOf cat) ≡ namesOf cat
+pub names-right : (cat : ℕ) → known cat ≡ true → namesFrom (spotOf cat) (itemsOf cat) ≡ namesOf cat
 unfolding known namesFrom spotOf spotAt spots spotsFrom namedAt named namesOf names048 names021 names007 paperOf cat048 cat021 cat007
 names-right cat h = go (eqb cat 48) refl (eqb cat 21) refl (eqb cat 7) refl
   where

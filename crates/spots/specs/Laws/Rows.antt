@@ -57,6 +57,16 @@ module _ (k left : ℕ) (some : left ≡ 0 → ⊥) where
             let e : suc (suc n) - 1 ≡ suc n = omega arith in
             (and-l (spotOk k) _ t, rw e (and-r (eqb (spotAt (k + 1) .1) (spotAt k .1 + slots (itemOn k))) _ (and-r (spotOk k) _ t)))
 
+    -- where there is a second, its slots begin behind those of the first
+    pub row-next : (left - 1 ≡ 0 → ⊥) → spotAt (k + 1) .1 ≡ spotAt k .1 + slots (itemOn k)
+    unfolding rowOk
+    row-next more = go left more ok
+      where
+        go : (left : ℕ) → (left - 1 ≡ 0 → ⊥) → T (rowOk k left) → spotAt (k + 1) .1 ≡ spotAt k .1 + slots (itemOn k)
+        go zero m t = absurd (m refl)
+        go (suc zero) m t = absurd (m refl)
+        go (suc (suc n)) m t = eqb→eq (spotAt (k + 1) .1) (spotAt k .1 + slots (itemOn k)) (and-l (eqb (spotAt (k + 1) .1) (spotAt k .1 + slots (itemOn k))) _ (and-r (spotOk k) _ t))
+
     -- the first holds its parts and numbers, and the rest what stands behind
     pub held-on : (i : ℕ) (ps : List ℕ) (ns : List ℤ) → heldFrom k left i ps ns ≡ (getD ps i 0, numbersOn k ns) ∷ heldFrom (k + 1) (left - 1) (i + 1) ps ns
     unfolding rowOk itemsFrom heldFrom numbersOn regroup
