@@ -12,6 +12,7 @@ pub mod Visitors
 pub mod Angle
 pub mod Pressure
 pub mod Sheet
+pub mod Rebuilding
 pub mod Sheets
 pub mod Edges
 pub mod Laws

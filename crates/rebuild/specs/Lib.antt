@@ -1,0 +1,3 @@
+-- What rebuilding a field promises.
+pub mod Rebuilds
+pub mod Laws

@@ -1,0 +1,173 @@
+// The lines of a text: the first line and what follows, its value as a number, how a text begins, and the first line in which two texts differ.
+// Promises: each is one equation of guess's definitions, for every text. Stands on words for the numbers.
+ghost use mathlib.Core.Path.{_≡_};
+ghost use mathlib.Core.List.{[]};
+ghost use Prim.Native.Nat.{_<_};
+ghost use lib.ListN.{getD, drop};
+ghost use Rattle.guess.specs.Fits.{beforeOctet, behindOctet, untilFeed, behindFeed, behindFeeds};
+ghost use Rattle.guess.specs.Guess.{valueIn, boundedIn, begins, firstWrong};
+ghost use Rattle.walk.specs.Steps.{placeIn, wordsIn, counted};
+ghost use Rattle.walk.specs.Ends.{between, endedIn};
+
+// The place of the first octet x, or the length.
+fn find(s: &[u8], x: u8) -> usize
+    ensures { λ r. ⌜ r ≡ placeIn x (now (s .entry)) ⌝ }
+{
+    let mut i: usize = 0;
+    while i < s.len() {
+        if s[i] == x {
+            return i;
+        }
+        i += 1;
+    }
+    i
+}
+
+// What stands behind so many octets.
+pub fn past<'a>(s: &'a [u8], n: usize) -> &'a [u8]
+    ensures { λ r. ⌜ now r ≡ drop n (now (s .entry)) ⌝ }
+{
+    if n < s.len() {
+        return &s[n..];
+    }
+    let end = s.len();
+    &s[end..]
+}
+
+// What stands before the first octet x, and behind it.
+fn before<'a>(s: &'a [u8], x: u8) -> &'a [u8]
+    ensures { λ r. ⌜ now r ≡ beforeOctet x (now (s .entry)) ⌝ }
+{
+    let n = find(s, x);
+    &s[..n]
+}
+
+fn behind<'a>(s: &'a [u8], x: u8) -> &'a [u8]
+    ensures { λ r. ⌜ now r ≡ behindOctet x (now (s .entry)) ⌝ }
+{
+    past(past(s, find(s, x)), 1)
+}
+
+// The first line of a text, without its line feed, and what follows it.
+pub fn line<'a>(t: &'a [u8]) -> &'a [u8]
+    ensures { λ r. ⌜ now r ≡ untilFeed (now (t .entry)) ⌝ }
+{
+    before(t, b'\n')
+}
+
+pub fn next<'a>(t: &'a [u8]) -> &'a [u8]
+    ensures { λ r. ⌜ now r ≡ behindFeed (now (t .entry)) ⌝ }
+{
+    behind(t, b'\n')
+}
+
+// What follows so many lines.
+pub fn skip<'a>(t: &'a [u8], n: usize) -> &'a [u8]
+    ensures { λ r. ⌜ now r ≡ behindFeeds n (now (t .entry)) ⌝ }
+{
+    if n == 0 {
+        return t;
+    }
+    skip(next(t), n - 1)
+}
+
+// Word k of a text of words, from 0, none past the last. One space stands between two words.
+pub fn word<'a>(t: &'a [u8], k: usize) -> &'a [u8]
+    ensures { λ r. ⌜ now r ≡ getD (wordsIn (now (t .entry))) k [] ⌝ }
+{
+    if k == 0 {
+        return before(t, b' ');
+    }
+    word(behind(t, b' '), k - 1)
+}
+
+// The value of the first line.
+pub fn value<'a>(t: &'a [u8]) -> &'a [u8]
+    ensures { λ r. ⌜ now r ≡ valueIn (now (t .entry)) ⌝ }
+{
+    behind(line(t), b'=')
+}
+
+// A plain decimal from lo to hi, else lo.
+pub fn bounded(t: &[u8], lo: u32, hi: u32) -> u64
+    ensures { λ r. ⌜ r ≡ boundedIn lo hi (now (t .entry)) ⌝ }
+{
+    let n = words::number(value(t), hi);
+    if n < (lo as u64) {
+        return lo as u64;
+    }
+    if n > (hi as u64) {
+        return lo as u64;
+    }
+    n
+}
+
+// Whether a text begins with a word.
+pub fn opens(w: &[u8], t: &[u8]) -> bool
+    ensures { λ r. ⌜ r ≡ begins (now (w .entry)) (now (t .entry)) ⌝ }
+{
+    let mut i: usize = 0;
+    while i < w.len() {
+        if i >= t.len() {
+            return false;
+        }
+        if t[i] != w[i] {
+            return false;
+        }
+        i += 1;
+    }
+    true
+}
+
+// How many line feeds there are, an octet being one more.
+fn count(k: usize, o: u8) -> usize
+    requires { ⌜ k < 18446744073709551615 ⌝ }
+    ensures { λ r. ⌜ r ≡ counted k o ⌝ }
+{
+    if o == b'\n' {
+        return k + 1;
+    }
+    k
+}
+
+// The line, from 1, in which two texts differ first; 0 if they are the same.
+pub fn first_wrong(s: &[u8], t: &[u8]) -> usize
+    ensures { λ r. ⌜ r ≡ firstWrong 1 (now (s .entry)) (now (t .entry)) ⌝ }
+{
+    let mut i: usize = 0;
+    let mut k: usize = 0;
+    while i < s.len() {
+        if i >= t.len() {
+            return k + 1;
+        }
+        if s[i] != t[i] {
+            return k + 1;
+        }
+        k = count(k, s[i]);
+        i += 1;
+    }
+    if i < t.len() {
+        return k + 1;
+    }
+    0
+}
+
+fn is_between(z: i32, lo: i32, hi: i32) -> bool
+    ensures { λ r. ⌜ r ≡ between lo hi z ⌝ }
+{
+    if lo <= z {
+        return z <= hi;
+    }
+    false
+}
+
+// A plain decimal from lo to hi, else 0.
+pub fn ended(t: &[u8], lo: i32, hi: i32) -> i32
+    ensures { λ r. ⌜ r ≡ endedIn lo hi (now (t .entry)) ⌝ }
+{
+    let n = words::whole(value(t));
+    if is_between(n, lo, hi) {
+        return n;
+    }
+    0
+}
