@@ -50,6 +50,7 @@ PROMISES = [
     ("arrays", "`read_array`, `write_array`"),
     ("exports", "`ref_read`, `ref_write`, `ref_view`, `ref_choose`, `ref_remove`, `ref_replace`, `ref_copy`, `ref_sheet`"),
     ("promises", "the code computes the program of the demands, each promise allows one result, and runs are as 02 asks by their contracts alone"),
+    ("inputs", "`read_in`"),
     ("listing", "the private function behind `main`: what is written is the sheet of what was read"),
     ("refdesk", "the private functions behind `main`: between two reads what is left of the input's last line is held"),
 ]

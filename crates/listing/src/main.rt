@@ -7,48 +7,26 @@ ghost use Prim.Native.Nat.{_≤_};
 ghost use lib.ListN.{length, take};
 ghost use Rattle.scope.specs.Sheet.{sheetOf};
 ghost use Rattle.longest.specs.Longest.{longestSheet};
+use inputs::Input;
 use layout::Answer;
 
 // The octets of the input that count: a category, and a field as long as LEN can say.
 const MOST: usize = 256;
-
-// Instead of a count of octets: a read has failed.
-const FAILED: usize = MOST + 1;
 
 // Room for every sheet: the contract of `listed` asks for it.
 const ROOM: usize = 2048;
 
 fn main() {
     let mut input = [0u8; MOST];
-    let n = read_in(&mut input);
-    if MOST < n {
+    let Input::Octets(n) = inputs::read_in(&mut input) else {
         io::write_all(2, b"listing: standard input can't be read\n");
         return;
-    }
+    };
     let mut output = [0u8; ROOM];
     let end = listed(&input[..n], &mut output);
     if !io::write_all(1, &output[..end]) {
         io::write_all(2, b"listing: the sheet can't be written\n");
     }
-}
-
-// The input into the front of an array, to its end or as far as there is room; what stands behind is left unread. How many octets it has.
-fn read_in(input: &mut [u8]) -> usize
-    ensures { λ r. ⌜ (r ≤ 256 → r ≤ length (now (input .exit))) ⌝ }
-{
-    let mut done: usize = 0;
-    while done < input.len() {
-        let got = libc::read(0, &mut input[done..]);
-        if got < 0 {
-            return FAILED;
-        }
-        let n = io::count(got, &input[done..]);
-        if n == 0 {
-            return done;
-        }
-        done += n;
-    }
-    done
 }
 
 // The sheet into the front of the output; its length. With so much room it is never refused.

@@ -1,13 +1,13 @@
 -- `listing::main` is safe: what was read and what is written lie within their arrays. Assumes nothing.
 use mathlib.Core.Path.{sym}
-use native.Mathlib.Omega.{arith}
 use borrow.Author.Needs.{needs}
 use lib.Seq.{length-take-le}
+use Rattle.inputs.specs.Inputs.{octets-within}
 use Rattle.listing.proofs.main.Statement.{statement}
 use Rattle.listing.proofs.main.Tie as tie
 
 array-share-prefix-input : tie.Need-array-share-prefix-input
-array-share-prefix-input c = c .before .before .read-in .ensures (omega arith)
+array-share-prefix-input c = let n = c .before in octets-within (n .n .given .1) (n .before .before .before .read-in .ensures)
 
 slice-aggregate-listed : tie.Need-slice-aggregate-listed
 slice-aggregate-listed c = let i = c .before in sym (length-take-le _ _ (array-share-prefix-input i))
@@ -21,6 +21,8 @@ main-spec =
     (tie.spec
     (λ c. search needs)
     (λ c κs. tt)
+    (λ c. search needs)
+    (λ c. search needs)
     (λ c. search needs)
     (λ c κs. tt)
     (λ c. tt)

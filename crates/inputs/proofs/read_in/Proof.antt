@@ -1,11 +1,11 @@
--- `listing::read_in` meets its contract: what was read lies in the array, whose length stays. Assumes nothing.
+-- `inputs::read_in` meets its contract: what was read lies in the array, whose length stays. Assumes nothing.
 use mathlib.Core.Path.{_≡_, refl}
 use Prim.Native.Nat.{_-_, _≤_}
 use native.Mathlib.Omega.{arith}
 use borrow.Author.Needs.{needs}
 use lib.ListN.{length}
-use Rattle.listing.proofs.read_in.Statement.{statement}
-use Rattle.listing.proofs.read_in.Tie as tie
+use Rattle.inputs.proofs.read_in.Statement.{statement}
+use Rattle.inputs.proofs.read_in.Tie as tie
 
 abbrev Inv-loop : tie.InvT-loop
 Inv-loop input₀ done₀ input done = (length input ≡ length input₀) × (done ≤ length input₀)
@@ -25,15 +25,15 @@ read-in-spec =
     (λ c. search needs)
     (λ c κs. tt)
     (λ c. search needs)
-    (λ c h. absurd (omega arith))
+    (λ c. tt)
     (λ c. search needs)
     (λ c. search needs)
     (λ c. search needs)
     (λ c κs. tt)
     (λ c. search needs)
-    (λ c h. search needs)
     (λ c. search needs)
     (λ c. search needs)
     (λ c. search needs)
     (λ c. search needs)
-    (λ c h. search needs))
+    (λ c. search needs)
+    (λ c. search needs))

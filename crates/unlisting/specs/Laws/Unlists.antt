@@ -1,0 +1,49 @@
+-- The category in front of a part that was lent: what both are then.
+use mathlib.Core.Path.{_≡_, refl, sym, ap, ap₂, _∙_, subst}
+use mathlib.Core.List.{List, [], _∷_, _++_, append-assoc}
+use Prim.Native.Nat.{ℕ, suc, _+_, _-_, _≤_, _<_}
+use native.Mathlib.Omega.{arith}
+use lib.ListN.{length, take, drop, set, length-append, length-take, length-drop, length-set}
+use lib.Seq.{take-append-seam}
+use Rattle.codec.specs.Frame.{Outcome, accepted, refused}
+use Rattle.papers.specs.Papers.{LONGEST}
+use Rattle.layout.specs.declared.Answer.{Answer}
+use Rattle.layout.specs.Answer.{lengthOf}
+use Rattle.scope.specs.Outputs.{answerOf, after, Leaves}
+use Rattle.scope.specs.Rebuilding.{categoryGiven, octetsGiven}
+use Rattle.guess.specs.Guess.{rebuildOf}
+use Rattle.guess.specs.Rebuilt.{rebuilt-few}
+use Rattle.rebuild.specs.declared.Rebuilt.{Rebuilt}
+use Rattle.rebuild.specs.Rebuilds.{Rebuilds}
+use Rattle.unlisting.specs.Unlists.{ROOM, Unlists}
+
+-- an output keeps its length
+kept-length : (o : Outcome (List ℕ)) (l : List ℕ) → lengthOf (answerOf o) ≤ length l → length (after o l) ≡ length l
+unfolding answerOf lengthOf after
+kept-length (accepted b) l h = length-append b (drop (length b) l) ∙ omega (arith, length-drop (length b) l)
+kept-length (refused n k) l h = refl
+
+-- the part behind the first octet is lent; m is what stands there afterwards
+pub unlists-is : (t out : List ℕ) → length out ≡ ROOM → {m : List ℕ} {r : Rebuilt} → Rebuilds t (take (length out - 1) (drop 1 out)) r m
+    → Unlists t (r .answer) (set (take 1 out ++ (m ++ drop (length out - 1) (drop 1 out))) 0 (r .cat))
+unfolding octetsGiven after categoryGiven
+unlists-is t [] h p = absurd (omega arith)
+unlists-is t (o ∷ rest) h {m} {r} p =
+    let mid : List ℕ = take (length (o ∷ rest) - 1) rest in
+    let z : List ℕ = drop (length (o ∷ rest) - 1) rest in
+    let e : length mid ≡ LONGEST = omega (arith, length-take (length (o ∷ rest) - 1) rest) in
+    let q : Rebuilds t mid r m = p in
+    let a : r .answer ≡ answerOf (octetsGiven (rebuildOf t LONGEST)) = q .leaves .answer ∙ ap (λ n. answerOf (octetsGiven (rebuildOf t n))) e in
+    record {
+      answer = a;
+      octets = λ cat b f.
+          let g : rebuildOf t (length mid) ≡ accepted (cat, b) = ap (rebuildOf t) e ∙ f in
+          let ec : r .cat ≡ cat = q .category ∙ ap categoryGiven g in
+          let em : m ≡ b ++ drop (length b) mid = q .leaves .output ∙ ap (λ x. after (octetsGiven x) mid) g in
+          ap₂ _∷_ ec (ap (λ x. take (length b) (x ++ z)) em ∙ ap (take (length b)) (append-assoc b (drop (length b) mid) z) ∙ take-append-seam b (drop (length b) mid ++ z));
+      few = subst (λ x. lengthOf x ≤ LONGEST) (sym a) (rebuilt-few t LONGEST .1);
+      within =
+          let few = rebuilt-few t (length mid) .1 in
+          let k : length m ≡ length mid = ap length (q .leaves .output) ∙ kept-length (octetsGiven (rebuildOf t (length mid))) mid (omega (arith, few, e)) in
+          omega (arith, few, e, k, ap lengthOf (q .leaves .answer), length-append m z);
+    }
