@@ -1,9 +1,10 @@
 /*
- * The Reserved Expansion Field of ASTERIX categories 048, 021 and 007: read, written, viewed, edited, copied and listed.
+ * The Reserved Expansion Field of ASTERIX categories 048, 021 and 007: read, written, viewed, edited, copied, listed and
+ * rebuilt.
  *
  * The functions are proved: whatever the octets and numbers, each answers and leaves exactly what document 01 (01-scope.md)
- * says, ref_copy what 02 (02-change-requests.md, Ask 5) says, and reads and writes only what it is lent. They keep no state
- * and allocate nothing, so threads may call them at once. Link target/staticlib/libexports.a, which `rt staticlib exports`
+ * says, ref_copy and ref_rebuild what 02 (02-change-requests.md, Asks 5 and 6) says, and reads and writes only what it is
+ * lent. They keep no state and allocate nothing, so threads may call them at once. Link target/staticlib/libexports.a, which `rt staticlib exports`
  * writes, for x86-64 Linux. tests/c has an example.
  *
  * Memory is lent for the call and not kept. Each pointer is followed by its count of elements; it is not NULL, also where
@@ -24,8 +25,9 @@ extern "C" {
  * The answer of every function is one word of four numbers of 16 bits each, the highest first:
  *
  *     bits 63..48   the number of the refusal, 0 if there is none
- *     bits 47..32   which field is meant, by ref_choose alone; else 0
- *     bits 31..16   the place of the refusal, counted from LEN; or the start of the item that is shown
+ *     bits 47..32   which field is meant, by ref_choose; the category, by ref_rebuild; else 0
+ *     bits 31..16   the place of the refusal, counted from LEN, by ref_rebuild its line; or the start of the item that is
+ *                   shown
  *     bits 15..0    the length of what was read, written or shown; 0 on a refusal
  */
 #define REF_NUMBER(word) ((unsigned)((uint64_t)(word) >> 48))
@@ -51,7 +53,8 @@ enum ref_number {
     REF_ITEM = 12,      /* item number is not one of the category's */
     REF_LIST = 13,      /* item is not on the slot's list */
     REF_NEW = 14,       /* new octets are not exactly one such item */
-    REF_ABSENT = 15     /* item absent */
+    REF_ABSENT = 15,    /* item absent */
+    REF_TEXT = 18       /* text that is no sheet of a field */
 };
 
 /* Which field an answer of ref_choose is about. */
@@ -225,6 +228,16 @@ uint64_t ref_copy(uint8_t cat, const uint8_t *field, size_t field_len, uint8_t w
  */
 #define REF_SHEET 1055
 uint64_t ref_sheet(const uint8_t *input, size_t input_len, uint8_t *out, size_t out_len);
+
+/*
+ * Rebuilds a field from its sheet: exactly the texts that ref_sheet writes for a field that is not refused are accepted. The
+ * field goes into the front of the output; the rest of the output is as before.
+ * Answers LEN of the field, and its category as REF_WHICH. Refused, in this order: 18 at line 0 for a text of more than
+ * 32,768 octets; 18 at the first line, counted from 1, with which no sheet could go on so, the value of `len` set aside; 18
+ * at line 2 if that value alone is wrong; 11. REF_PLACE is the line.
+ */
+#define REF_LONGEST_TEXT 32768
+uint64_t ref_rebuild(const uint8_t *text, size_t text_len, uint8_t *out, size_t out_len);
 
 #ifdef __cplusplus
 }

@@ -5,6 +5,7 @@ tests/refdesk.py, so that the two check each other.
 """
 from refdesk import FORMS, LIST, LONGEST, MOST, NUMBER, OCTET, OCTETS, SPACE
 
+SHEET = b"cat=48\nlen=6\nitems=M4E,ERR\nM4E=3\nERR=65536\nend=ok\n".hex().upper().encode()  # 01's worked one, as a word
 EXAMPLES = [  # a request of each form that is accepted
     b"read 48 062806010000",
     b"write 300 48 0" + b" 0" * 85,
@@ -14,6 +15,7 @@ EXAMPLES = [  # a request of each form that is accepted
     b"remove 48 062806010000 FF 3 300",
     b"replace 48 062806010000 FF 4 8007 300",
     b"copy 48 062806010000 20 300",
+    b"rebuild " + SHEET + b" 300",
 ]
 WORKED = [  # 01's worked octets, and lines by hand, with their answers
     (b"view 48 062806010000 5", "ok 3 3 010000"),
@@ -41,6 +43,12 @@ WORKED = [  # 01's worked octets, and lines by hand, with their answers
     (b"sheet 48 03200F", "refused 6 2"),
     (b"sheet 49 0200", "refused 1 0"),
     (b"sheet 48 -", "refused 2 0"),
+    (b"rebuild " + SHEET + b" 6", "ok 48 062806010000"),
+    (b"rebuild " + SHEET.lower() + b" 300", "ok 48 062806010000"),
+    (b"rebuild " + SHEET + b" 5", "refused 11 0"),
+    (b"rebuild " + SHEET[:-2] + b" 300", "refused 18 6"),
+    (b"rebuild " + SHEET + b"0A 300", "refused 18 7"),
+    (b"rebuild - 300", "refused 18 1"),
     (b"", "bad-request 1"),
     (b"read", "bad-request 2"),
     (b"read ", "bad-request 2"),
@@ -57,6 +65,11 @@ WORKED = [  # 01's worked octets, and lines by hand, with their answers
     (b"copy 48 062806010000 300", "bad-request 4"),
     (b"copy 48 062806010000 8 300", "bad-request 4"),
     (b"copy 48 062806010000 08", "bad-request 5"),
+    (b"rebuild 48 " + SHEET + b" 300", "bad-request 3"),  # the text says its category
+    (b"rebuild cat=48 300", "bad-request 2"),
+    (b"rebuild " + SHEET, "bad-request 3"),
+    (b"rebuild " + SHEET + b"00" * (MOST - len(SHEET) // 2) + b" 300", "refused 18 7"),
+    (b"rebuild " + SHEET + b"00" * (MOST + 1 - len(SHEET) // 2) + b" 300", "bad-request 2"),
     (b"write 300 48 0" + b" 0" * 84, "bad-request 89"),
     (b"write 300 48 0" + b" 0" * 86, "bad-request 90"),
 ]

@@ -6,7 +6,7 @@ sent. A request is kept as (name, values of its words); `line_of` writes it as a
 import re
 from typing import Callable, NamedTuple
 
-from reference import SLOTS, choose, copy, edit, read, sheet, view, write
+from reference import SLOTS, choose, copy, edit, read, rebuild, sheet, view, write
 
 LONGEST = 16384  # octets of a line, its line feed not counted
 MOST = 4096  # octets that one word has at most
@@ -89,6 +89,7 @@ FORMS = {
     b"remove": ((OCTET, OCTETS, LIST, OCTET, SPACE), remove_answer),
     b"replace": ((OCTET, OCTETS, LIST, OCTET, OCTETS, SPACE), edit),
     b"copy": ((OCTET, OCTETS, LIST, SPACE), copy),
+    b"rebuild": ((OCTETS, SPACE), rebuild),
 }
 
 

@@ -3,9 +3,12 @@ crates/.
 
 A record is (category, items, [8 parts], [77 numbers]). An operation answers ('ok', ..) or ('refused', number, place).
 """
+import re
+
 from papers import PAPERS
 
 SLOTS = 77
+LONGEST_TEXT = 32768  # octets of a text that may be a sheet
 
 
 class Refusal(Exception):
@@ -302,3 +305,113 @@ def sheet(octets):
         for key, there, z in zip(keys(item), shown(item, counts[i], own), own):
             lines += number_lines(key, z) if key and there else []
     return "\n".join(lines + ["end=ok"]) + "\n"
+
+
+# ---- the sheet read back: 02, Ask 6
+
+class Lines:
+    """The lines of a text, taken one after the other. A line that can't stand where it does is refused by 18 with its number, from 1."""
+
+    def __init__(self, text):
+        *self.whole, self.cut = text.split("\n")  # what stands behind the last line feed is no whole line
+        self.taken = 0
+
+    def refuse(self):
+        raise Refusal(18, self.taken)
+
+    def has(self, key):
+        """Whether the next line is there and has this key."""
+        return self.taken < len(self.whole) and self.whole[self.taken].startswith(key + "=")
+
+    def value(self, key):
+        """The next line's, which has to have this key."""
+        there = self.has(key)
+        self.taken += 1
+        if not there:
+            self.refuse()
+        return self.whole[self.taken - 1].removeprefix(key + "=")
+
+    def exactly(self, line):
+        key, _, wanted = line.partition("=")
+        if self.value(key) != wanted:
+            self.refuse()
+
+    def decimal(self, key, low, high):
+        """A number as the sheet prints it, from low to high."""
+        value = self.value(key)
+        if not re.fullmatch("0|-?[1-9][0-9]{0,9}", value) or not low <= int(value) <= high:
+            self.refuse()
+        return int(value)
+
+    def end(self):
+        if self.taken < len(self.whole) or self.cut:
+            self.taken += 1
+            self.refuse()
+
+
+def number_in(lines, key, number):
+    """A number that its bits hold and its range allows; the lines derived from it have to follow."""
+    _, hi, lo, kind = number
+    half = 1 << (hi - lo)
+    z = lines.decimal(key, 0, 2 * half - 1) if kind == "u" else lines.decimal(key, -half, half - 1)
+    if not in_range(kind, z):
+        lines.refuse()
+    for line in number_lines(key, z)[1:]:
+        lines.exactly(line)
+    return z
+
+
+def chain_in(lines, parts, named, count):
+    """The numbers of the parts that there are; zeros for the others."""
+    return [number_in(lines, next(named), n) if k < count else 0 for k, (_, numbers) in enumerate(parts) for n in numbers]
+
+
+def subfields_in(lines, subs, named, announced):
+    """Flags and numbers of the subfields: one that the parts can announce is there if the next line opens it, and then it is there whole."""
+    flags, values = [], []
+    for k, (_, _, numbers) in enumerate(subs):
+        own = [next(named) for _ in numbers]
+        flags.append(int(k < announced and lines.has(own[0])))
+        values += [number_in(lines, key, n) if flags[k] else 0 for key, n in zip(own, numbers)]
+    return flags + values
+
+
+def item_in(lines, item):
+    """The octets of an item that is there."""
+    name, parts, subs = item
+    count = lines.decimal(f"{name}.chain", 1, len(parts)) if len(parts) > 1 else len(parts)
+    named = iter(key for key in keys(item) if key)
+    if not parts:
+        return lay_item(item, 0, [number_in(lines, next(named), n) for _, _, numbers in subs for n in numbers])
+    if not subs:
+        return lay_item(item, count, chain_in(lines, parts, named, count))
+    return lay_item(item, count, subfields_in(lines, subs, named, sum(len(numbers) for _, numbers in parts[:count])))
+
+
+def names_in(lines, items):
+    """The names of line 3: each an item's, in the order of their bits, none twice."""
+    value = lines.value("items")
+    names = value.split(",") if value else []
+    if names != [item[0] for item in items if item[0] in names]:
+        lines.refuse()
+    return names
+
+
+@answered
+def rebuild(text, room):
+    """('ok', category, octets) of the field whose sheet the text is. The refusal's place is a line."""
+    if len(text) > LONGEST_TEXT:
+        raise Refusal(18, 0)
+    lines = Lines(text.decode("latin-1"))
+    cat = lines.decimal("cat", 0, 255)
+    items = PAPERS[cat] if cat in PAPERS else lines.refuse()
+    length = lines.decimal("len", 2, 255)
+    names = names_in(lines, items)
+    body = b"".join(item_in(lines, item) for item in items if item[0] in names)
+    lines.exactly("end=ok")
+    lines.end()
+    if length != len(body) + 2:
+        raise Refusal(18, 2)
+    if length > room:
+        raise Refusal(11, 0)
+    return ("ok", cat, bytes([length, sum(0x80 >> i for i, item in enumerate(items) if item[0] in names)]) + body)

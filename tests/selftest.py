@@ -1,20 +1,24 @@
 #!/usr/bin/env python3
-"""01's worked octets, edits and longest fields, and edits, copies and records written by hand, held against the reference implementation of the tests;
-and the papers' data of crates/papers, as tests/slots.py takes it, and docs/SPARE.md held against the transcription of the tests. And that each public function
-has its wrong programs, as tests/ledger.py counts them."""
+"""01's worked octets, edits and longest fields, and edits, copies, records and sheets written by hand, held against the reference implementation of the
+tests; sheets that are read back, whole, cut and spoilt, against what is printed; and the papers' data of crates/papers, as tests/slots.py takes it, and
+docs/SPARE.md held against the transcription of the tests. And that each public function has its wrong programs, as tests/ledger.py counts them."""
+import random
 from decimal import ROUND_HALF_UP, Decimal
 from itertools import zip_longest
 from math import inf
 
 import copies
 import ledger
+import rebuilds
 import slots
 import spares
 from edits import BASE, WORKED
+from fields import full_field, good_field
 from papers import INDICATORS, MEASURES, PAPERS, SECTIONS
+from printed import aside, checked, split
 from reads import requests
-from reference import angle, choose, copy, edit, keys, read, sheet, size, SLOTS, spare_bits, view, write
-from sheets import positions
+from reference import LONGEST_TEXT, angle, choose, copy, edit, keys, read, rebuild, sheet, size, SLOTS, spare_bits, view, write
+from sheets import inputs, positions, widest
 
 h = bytes.fromhex
 
@@ -296,6 +300,56 @@ def by_decimals(n):
     return udeg, n * 703125 - udeg * 32768
 
 
+# ---- the sheet read back
+
+def cut_at(text, places):
+    """Cut at each of these places, a sheet is refused at the line that is then not whole; how many there are."""
+    for n in places:
+        assert rebuild(text[:n], 0) == ("refused", 18, 1 + text[:n].count(b"\n")), text[:n]
+    return len(places)
+
+
+def back_again(given):
+    """The sheet of an accepted input gives it again where there is room; with another length it is refused at line 2, cut at its line feeds behind them."""
+    text, length = sheet(given).encode(), given[1]
+    assert rebuild(text, length) == ("ok", given[0], given[1:]) and rebuild(text, length - 1) == ("refused", 11, 0), text
+    for other in {2, length - 1, length + 1, 255} - {1, length}:
+        assert rebuild(text.replace(b"\nlen=%d\n" % length, b"\nlen=%d\n" % other), 300) == ("refused", 18, 2), text
+    feeds = [n for n, octet in enumerate(text) if octet == 10]
+    return 2 + cut_at(text, feeds + [n + 1 for n in feeds[:-1]])
+
+
+def tree_of(texts):
+    """Sheets as a tree of their lines, the value of `len` set aside."""
+    tree = {}
+    for text in texts:
+        at = tree
+        for line in aside(split(text)[0]):
+            at = at.setdefault(line, {})
+    return tree
+
+
+def shared(tree, text):
+    """How many of its lines some sheet of the tree begins with."""
+    lines = aside(split(text)[0])
+    for k, line in enumerate(lines):
+        if line not in tree:
+            return k
+        tree = tree[line]
+    return len(lines)
+
+
+def spoilt_sheets(count):
+    """Answers to spoilt sheets by 02's sentence. No sheet that there is has the line of a refusal; line 2 alone may be for a length that is not compared."""
+    rng = random.Random(18)
+    sheets = [sheet(given).encode() for given in inputs() if rng.randrange(2) and given[:1] and read(given[0], given[1:])[0] == "ok"]
+    tree = tree_of(sheets)
+    for text, room in rebuilds.spoilt_vectors(rng, count, sheets):
+        got = checked(text, room)
+        assert got[0] == "ok" or got[2] in (0, 2) or shared(tree, text) < got[2], (text, got)
+    return count
+
+
 def longest(cat):
     return 2 + sum(sum(o for o, _ in parts) + sum(o for _, o, _ in subs) for _, parts, subs in PAPERS[cat])
 
@@ -353,4 +407,17 @@ for n, sense in ((0, "atmost"), (1, "equal"), (4094, "equal"), (4095, "atleast")
     assert sheet(pressed(n)) == f"cat=21\nlen=4\nitems=BPS\nBPS={n}\nBPS.tenths={8000 + n}\nBPS.sense={sense}\nend=ok\n"
     checks += 1
 assert one_number_each()
-print(f"{checks + 11} passed, 0 failed")
+for text, room, expected in rebuilds.WORKED:
+    got = rebuild(text, room)
+    assert got == (("ok", expected[0], h(expected[1])) if isinstance(expected[1], str) else ("refused", *expected)), (text, got)
+    checks += 1
+rng = random.Random(6)
+for cat in PAPERS:
+    checks += sum(back_again(bytes([cat]) + field) for field in [full_field(cat, widest)] + [good_field(cat, rng) for _ in range(60)])
+    whole = sheet(bytes([cat]) + full_field(cat, widest)).encode()
+    checks += cut_at(whole, range(len(whole)))
+    assert rebuild(whole.ljust(LONGEST_TEXT, b"\0"), 300) == ("refused", 18, 1 + whole.count(b"\n"))
+    assert rebuild(whole.ljust(LONGEST_TEXT + 1, b"\0"), 300) == ("refused", 18, 0)
+checks += spoilt_sheets(4000)
+assert rebuild(b"\n" * LONGEST_TEXT, 300) == ("refused", 18, 1) and rebuild(b"\n" * (LONGEST_TEXT + 1), 300) == ("refused", 18, 0)
+print(f"{checks + 18} passed, 0 failed")

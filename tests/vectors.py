@@ -4,8 +4,8 @@
     python3 tests/vectors.py          says which of the two is not as it is made here
     python3 tests/vectors.py write    makes both
 
-The requests are those of tests/reads.py, records.py, edits.py, copies.py, sheets.py and orders.py, and the lines of tests/lines.py that are none; the answers
-are those of tests/refdesk.py. Nothing here comes from crates/.
+The requests are those of tests/reads.py, records.py, edits.py, copies.py, sheets.py, orders.py and rebuilds.py, and the lines of tests/lines.py that are
+none; the answers are those of tests/refdesk.py. Nothing here comes from crates/.
 """
 import random
 import sys
@@ -16,13 +16,14 @@ import copies
 import edits
 import orders
 import reads
+import rebuilds
 import records
 import sheets
 from lines import EXAMPLES, WORKED, WRONG, at_the_limits, either_case, noise
 from refdesk import answer, answers, line_of
 
 CRATE = Path(__file__).resolve().parent.parent / "crates" / "refdesk"
-SOURCES = (reads, records, edits, copies, sheets, orders)
+SOURCES = (reads, records, edits, copies, sheets, orders, rebuilds)
 FIELD = {*range(1, 10), "ok"}
 DUE = {  # the answers that each form of request can give: all have to be there
     b"read": FIELD,
@@ -33,6 +34,7 @@ DUE = {  # the answers that each form of request can give: all have to be there
     b"remove": FIELD | {11, 12, 13},
     b"replace": FIELD | {11, 12, 13, 14},
     b"copy": FIELD | {11},
+    b"rebuild": {11, 18, "ok"},
 }
 
 
@@ -87,7 +89,7 @@ def main():
         for path, text in files.items():
             path.write_bytes(text)
     for name in DUE:
-        refused = " ".join(f"{no}:{counts[name, no]}" for no in range(1, 16) if counts[name, no])
+        refused = " ".join(f"{no}:{counts[name, no]}" for no in range(1, 19) if counts[name, no])
         print(f"{name.decode()}: {counts[name, 'ok']} accepted; refused by {refused}")
     print(f"{len(made) + 1} lines, {counts['bad-request', 'bad-request']} of them no request, {' and '.join(f'{len(text)} octets' for text in files.values())}")
     differing = [path.name for path, text in files.items() if path.read_bytes() != text]

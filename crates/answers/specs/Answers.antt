@@ -16,13 +16,14 @@ use Rattle.scope.specs.Views.{viewOf, partOf, chooseOf, chosenOf}
 use Rattle.scope.specs.Desk.{editOf}
 use Rattle.scope.specs.Visitors.{copyOf}
 use Rattle.words.specs.Numbers.{valueIn}
+use Rattle.guess.specs.Guess.{rebuildOf}
 use Rattle.hex.specs.Octets.{octetsIn, listIn}
 use Rattle.protocol.specs.Line.{wordsOf, nth}
 use Rattle.protocol.specs.Forms.{parseOf}
 use Rattle.protocol.specs.Record.{recordIn}
 use Rattle.protocol.specs.declared.Judged.{Judged}
 use Rattle.protocol.specs.declared.Judged.the-variants.{Asks, Wrong}
-use Rattle.replies.specs.Texts.{badRequest, refusalText, outputText, viewText, choiceText, readingText, sheetText}
+use Rattle.replies.specs.Texts.{badRequest, refusalText, outputText, rebuiltText, viewText, choiceText, readingText, sheetText}
 
 -- ---- what the words of a request are, by their kinds
 
@@ -80,11 +81,15 @@ replaceAnswer word = outputText (editOf (CAT (word 1)) (octetsIn (word 2)) (list
 unfoldable pub copyAnswer : (ℕ → List ℕ) → List ℕ
 copyAnswer word = outputText (copyOf (CAT (word 1)) (octetsIn (word 2)) (listIn (word 3)) (ROOM (word 4)))
 
+-- `rebuild TEXT ROOM`
+unfoldable pub rebuildAnswer : (ℕ → List ℕ) → List ℕ
+rebuildAnswer word = rebuiltText (rebuildOf (octetsIn (word 1)) (ROOM (word 2)))
+
 -- ---- a line
 
 -- a request by its number in the table of forms, with its words one by one and all from one on
 unfoldable pub asked : ℕ → (ℕ → List ℕ) → (ℕ → List (List ℕ)) → List ℕ
-unfolding readAnswer writeAnswer sheetAnswer viewAnswer chooseAnswer removeAnswer replaceAnswer copyAnswer
+unfolding readAnswer writeAnswer sheetAnswer viewAnswer chooseAnswer removeAnswer replaceAnswer copyAnswer rebuildAnswer
 asked q word from =
     pick (eqb q 0) (readAnswer word)
     (pick (eqb q 1) (writeAnswer word from)
@@ -93,7 +98,8 @@ asked q word from =
     (pick (eqb q 4) (chooseAnswer word)
     (pick (eqb q 5) (removeAnswer word)
     (pick (eqb q 6) (replaceAnswer word)
-    (pick (eqb q 7) (copyAnswer word) (badRequest 1))))))))
+    (pick (eqb q 7) (copyAnswer word)
+    (pick (eqb q 8) (rebuildAnswer word) (badRequest 1)))))))))
 
 unfoldable pub said : Judged → (ℕ → List ℕ) → (ℕ → List (List ℕ)) → List ℕ
 unfolding asked

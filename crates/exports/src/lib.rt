@@ -1,6 +1,6 @@
 // The C interface: each operation as a function that a program in C calls, declared in include/refdesk.h.
 // Promises: the word that is answered, and every element of lent memory afterwards, are those of 01's definitions, for every input; a refusal writes nothing.
-// Stands on reader, arrays, views, desk, visitors and sheet, which it knows by their contracts.
+// Stands on reader, arrays, views, desk, visitors, sheet and rebuild, which it knows by their contracts.
 ghost use mathlib.Core.Path.{_≡_};
 ghost use lib.ListN.{length};
 ghost use Rattle.codec.specs.Change.{remove, put};
@@ -11,7 +11,8 @@ ghost use Rattle.scope.specs.Sheet.{sheetOf};
 ghost use Rattle.scope.specs.Views.{viewOf, chooseOf};
 ghost use Rattle.scope.specs.Desk.{editOf};
 ghost use Rattle.scope.specs.Visitors.{copyOf};
-ghost use Rattle.interface.specs.Packed.{wordOf, Fit, answerWord, sideWord, viewWord, choiceWord, Hands};
+ghost use Rattle.guess.specs.Guess.{rebuildOf};
+ghost use Rattle.interface.specs.Packed.{wordOf, Fit, besideWord, answerWord, sideWord, viewWord, choiceWord, Hands, Rebuilds};
 ghost use Rattle.interface.specs.Arrays.{Fills, writeArray};
 use layout::Answer;
 use layout::View;
@@ -27,14 +28,21 @@ fn word(number: u8, which: u8, place: usize, size: usize) -> u64
         + (size as u64)
 }
 
+fn beside_word(which: u8, a: Answer) -> u64
+    requires { ⌜ Fit (placeOf a) (lengthOf a) ⌝ }
+    ensures { λ r. ⌜ r ≡ besideWord which a ⌝ }
+{
+    match a {
+        Answer::Accepted(n) => word(0, which, 0, n),
+        Answer::Refused(e, p) => word(e, which, p, 0),
+    }
+}
+
 fn answer_word(a: Answer) -> u64
     requires { ⌜ Fit (placeOf a) (lengthOf a) ⌝ }
     ensures { λ r. ⌜ r ≡ answerWord a ⌝ }
 {
-    match a {
-        Answer::Accepted(n) => word(0, 0, 0, n),
-        Answer::Refused(e, p) => word(e, 0, p, 0),
-    }
+    beside_word(0, a)
 }
 
 fn side_word(which: u8, v: View) -> u64
@@ -127,4 +135,14 @@ pub extern "C" fn ref_sheet(input: &[u8], out: &mut [u8]) -> u64
 {
     let done = sheet::sheet(input, &mut *out);
     answer_word(done)
+}
+
+// The field whose sheet a text is, into the front of the output, and its category.
+#[no_mangle]
+pub extern "C" fn ref_rebuild(text: &[u8], out: &mut [u8]) -> u64
+    ensures { λ r. ⌜ Rebuilds (rebuildOf (now (text .entry)) (length (now (out .entry)))) (now (out .entry)) r (now (out .exit)) ⌝ }
+{
+    let given = rebuild::rebuild(text, &mut *out);
+    let answer = given.answer;
+    beside_word(given.cat, answer)
 }

@@ -7,6 +7,7 @@ use Rattle.layout.specs.declared.Answer.{Answer}
 use Rattle.layout.specs.declared.View.{View}
 use Rattle.layout.specs.declared.Choice.{Choice}
 use Rattle.scope.specs.Outputs.{answerOf, after}
+use Rattle.scope.specs.Rebuilding.{categoryGiven, octetsGiven}
 use Rattle.layout.specs.Answer.{numberOf, placeOf, lengthOf, viewNumber, viewPlace, viewLength, whichNumber}
 
 -- four numbers of 16 bits each, the refusal's number highest
@@ -17,10 +18,15 @@ wordOf number which place size = number * 2 ^ 48 + which * 2 ^ 32 + place * 2 ^ 
 abbrev pub Fit : ℕ → ℕ → Type 0
 Fit place size = (place < 65_536) × (size < 65_536)
 
+-- of an answer and a number beside it
+unfoldable pub besideWord : ℕ → Answer → ℕ
+unfolding wordOf
+besideWord which a = wordOf (numberOf a) which (placeOf a) (lengthOf a)
+
 -- of what was read or written
 unfoldable pub answerWord : Answer → ℕ
-unfolding wordOf
-answerWord a = wordOf (numberOf a) 0 (placeOf a) (lengthOf a)
+unfolding besideWord
+answerWord a = besideWord 0 a
 
 -- of a view in one of two fields: the start of what is shown stands in the place
 unfoldable pub sideWord : ℕ → View → ℕ
@@ -36,7 +42,17 @@ unfoldable pub choiceWord : Choice → ℕ
 unfolding sideWord
 choiceWord c = sideWord (whichNumber (c .which)) (c .view)
 
+-- of what was rebuilt: the category stands where a choice has its field
+unfoldable pub rebuiltWord : Outcome (ℕ × List ℕ) → ℕ
+unfolding besideWord
+rebuiltWord o = besideWord (categoryGiven o) (answerOf (octetsGiven o))
+
 -- what a function with an output promises of its word, and of the output before and after
 pub record Hands (o : Outcome (List ℕ)) (out : List ℕ) (w : ℕ) (out′ : List ℕ) : Type 0 where
   pub word : w ≡ answerWord (answerOf o)
   pub output : out′ ≡ after o out
+
+-- and one that rebuilds a field
+pub record Rebuilds (o : Outcome (ℕ × List ℕ)) (out : List ℕ) (w : ℕ) (out′ : List ℕ) : Type 0 where
+  pub word : w ≡ rebuiltWord o
+  pub output : out′ ≡ after (octetsGiven o) out

@@ -18,7 +18,7 @@ use Rattle.protocol.specs.declared.Parsed.{Parsed}
 unfoldable pub fits : ℕ → List ℕ → Bool
 fits kind w =
     pick (eqb kind 67) (isNumber 255 w)  -- C  CAT
-    (pick (eqb kind 79) (isOctets w)  -- O  octets: FIELD, NEW, BASE, ..
+    (pick (eqb kind 79) (isOctets w)  -- O  octets: FIELD, NEW, TEXT, ..
     (pick (eqb kind 76) (isList w)  -- L  LIST, WITHHELD: two hex digits
     (pick (eqb kind 73) (isNumber 255 w)  -- I  ITEM
     (pick (eqb kind 82) (isNumber 300 w)  -- R  ROOM
@@ -46,6 +46,7 @@ forms =
     ∷ record { name = text "remove"; kinds = text "COLIR" }  -- 5
     ∷ record { name = text "replace"; kinds = text "COLIOR" }  -- 6
     ∷ record { name = text "copy"; kinds = text "COLR" }  -- 7
+    ∷ record { name = text "rebuild"; kinds = text "OR" }  -- 8
     ∷ []
 
 -- the number of the first word that is wrong: not of its kind, missing, or one too many; n is the number of the first of them, 0 says that none is

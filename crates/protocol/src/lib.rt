@@ -138,7 +138,7 @@ pub fn parse(line: &[u8]) -> Parsed
     }
     let judged = judge(
         line,
-        b"read CO write RCBBBBBBBBBSSSSSSSSSSSSSSSSSSSSSSSSSSSSSSSSSSSSSSSSSSSSSSSSSSSSSSSSSSSSSSSSSSSSSSSSSSSSS sheet CO view COI choose COOI remove COLIR replace COLIOR copy COLR",
+        b"read CO write RCBBBBBBBBBSSSSSSSSSSSSSSSSSSSSSSSSSSSSSSSSSSSSSSSSSSSSSSSSSSSSSSSSSSSSSSSSSSSSSSSSSSSSS sheet CO view COI choose COOI remove COLIR replace COLIOR copy COLR rebuild OR",
     );
     let starts = places(line);
     Parsed {

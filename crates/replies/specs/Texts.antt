@@ -51,6 +51,18 @@ unfolding refusalText nextOctets
 leftText (Accepted n) out = text "ok" ++ nextOctets (take n out)
 leftText (Refused n p) out = refusalText n p
 
+-- `ok CAT OCTETS`
+unfoldable pub rebuiltText : Outcome (ℕ × List ℕ) → List ℕ
+unfolding refusalText next nextOctets
+rebuiltText (accepted x) = text "ok" ++ (next (x .0) ++ nextOctets (x .1))
+rebuiltText (refused n p) = refusalText n p
+
+-- of the category, the answer and the output that it left
+unfoldable pub givenText : ℕ → Answer → List ℕ → List ℕ
+unfolding refusalText next nextOctets
+givenText cat (Accepted n) out = text "ok" ++ (next cat ++ nextOctets (take n out))
+givenText cat (Refused n p) out = refusalText n p
+
 -- `ok START LENGTH OCTETS`
 unfoldable pub shownText : ℕ → ℕ → List ℕ → List ℕ
 unfolding next nextOctets

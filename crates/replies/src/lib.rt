@@ -3,7 +3,7 @@
 ghost use mathlib.Core.Path.{_≡_};
 ghost use Rattle.papers.specs.Names.{text};
 ghost use Rattle.text.specs.Typing.{Types};
-ghost use Rattle.replies.specs.Texts.{next, nextSigned, nextOctets, badRequest, refusalText, leftText, shownText, viewText, choiceText, wordsText, recordText, readingText, inLine, lineOctet, sheetText};
+ghost use Rattle.replies.specs.Texts.{next, nextSigned, nextOctets, badRequest, refusalText, leftText, givenText, shownText, viewText, choiceText, wordsText, recordText, readingText, inLine, lineOctet, sheetText};
 use layout::Answer;
 use layout::Choice;
 use layout::Reading;
@@ -66,6 +66,20 @@ pub fn left(answer: Answer, out: &[u8], buf: &mut [u8; 4096]) -> usize
             next_octets(leaves::front(out, n), at, &mut *buf)
         }
         Answer::Refused(no, place) => refusal(no, place, &mut *buf),
+    }
+}
+
+// The same with the category of the field that it left.
+pub fn rebuilt_text(cat: u8, answer: Answer, out: &[u8], buf: &mut [u8; 4096]) -> usize
+    ensures { λ r. ⌜ Types (givenText cat answer (now (out .entry))) (now (buf .entry)) 0 (now (buf .exit)) r ⌝ }
+{
+    match answer {
+        Answer::Accepted(n) => {
+            let category = ok(&mut *buf);
+            let at = next(cat as u64, category, &mut *buf);
+            next_octets(leaves::front(out, n), at, &mut *buf)
+        }
+        Answer::Refused(no, line) => refusal(no, line, &mut *buf),
     }
 }
 

@@ -13,8 +13,9 @@ ghost use Rattle.scope.specs.Views.{viewOf, chooseOf};
 ghost use Rattle.scope.specs.Visitors.{copyOf};
 ghost use Rattle.scope.specs.Writing.{writeOf};
 ghost use Rattle.text.specs.Typing.{Types};
-ghost use Rattle.replies.specs.Texts.{outputText};
-ghost use Rattle.answers.specs.Answers.{viewed, chosen, listed, readAnswer, writeAnswer, sheetAnswer, viewAnswer, chooseAnswer, removeAnswer, replaceAnswer, copyAnswer, asked, answerOf};
+ghost use Rattle.guess.specs.Guess.{rebuildOf};
+ghost use Rattle.replies.specs.Texts.{outputText, rebuiltText};
+ghost use Rattle.answers.specs.Answers.{viewed, chosen, listed, readAnswer, writeAnswer, sheetAnswer, viewAnswer, chooseAnswer, removeAnswer, replaceAnswer, copyAnswer, rebuildAnswer, asked, answerOf};
 ghost use Rattle.requests.specs.Laws.Requests.{wordIn, wordsFrom};
 use layout::Answer;
 use layout::Record;
@@ -85,6 +86,14 @@ fn copied(cat: u8, field: &[u8], withheld: u8, out: &mut [u8], buf: &mut [u8; 40
 {
     let answer = visitors::copy(cat, field, withheld, &mut *out);
     replies::left(answer, out, &mut *buf)
+}
+
+fn rebuilt(text: &[u8], out: &mut [u8], buf: &mut [u8; 4096]) -> usize
+    ensures { λ r. ⌜ Types (rebuiltText (rebuildOf (now (text .entry)) (length (now (out .entry))))) (now (buf .entry)) 0 (now (buf .exit)) r ⌝ }
+{
+    let given = rebuild::rebuild(text, &mut *out);
+    let answer = given.answer;
+    replies::rebuilt_text(given.cat, answer, out, &mut *buf)
 }
 
 fn written(kept: Record, out: &mut [u8], buf: &mut [u8; 4096]) -> usize
@@ -216,6 +225,16 @@ fn copy(line: &[u8], starts: &[usize; 10], buf: &mut [u8; 4096]) -> usize
     copied(cat, &field[..n], withheld, &mut out[..room], &mut *buf)
 }
 
+fn rebuild(line: &[u8], starts: &[usize; 10], buf: &mut [u8; 4096]) -> usize
+    ensures { λ r. ⌜ Types (rebuildAnswer (wordIn (now (line .entry)) (now (starts .entry)))) (now (buf .entry)) 0 (now (buf .exit)) r ⌝ }
+{
+    let mut text = blank();
+    let mut out = output();
+    let n = hex::octets(word(line, starts, 1), &mut text);
+    let room = words::room(word(line, starts, 2));
+    rebuilt(&text[..n], &mut out[..room], &mut *buf)
+}
+
 // ---- a line
 
 fn asked(q: usize, line: &[u8], starts: &[usize; 10], buf: &mut [u8; 4096]) -> usize
@@ -231,6 +250,7 @@ fn asked(q: usize, line: &[u8], starts: &[usize; 10], buf: &mut [u8; 4096]) -> u
         5 => remove(line, starts, &mut *buf),
         6 => replace(line, starts, &mut *buf),
         7 => copy(line, starts, &mut *buf),
+        8 => rebuild(line, starts, &mut *buf),
         _ => replies::bad_request(1, &mut *buf),
     }
 }

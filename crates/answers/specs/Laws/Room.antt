@@ -38,6 +38,8 @@ use Rattle.text.specs.Laws.Typing.{typed-front}
 use Rattle.longest.specs.Laws.Longest.{sheet-longest}
 use Rattle.words.specs.Numbers.{valueIn}
 use Rattle.words.specs.Laws.Numbers.{value-most}
+use Rattle.guess.specs.Guess.{rebuildOf}
+use Rattle.guess.specs.Rebuilt.{rebuilt-few}
 use Rattle.hex.specs.Octets.{isOctets, octetOf, octetsOf, octetsIn, listIn}
 use Rattle.protocol.specs.Line.{wordsOf, nth}
 use Rattle.protocol.specs.Forms.{parseOf}
@@ -45,8 +47,8 @@ use Rattle.protocol.specs.Record.{recordIn}
 use Rattle.protocol.specs.declared.Judged.{Judged}
 use Rattle.protocol.specs.declared.Judged.the-variants.{Asks, Wrong}
 use Rattle.replies.specs.Texts.{badRequest, outputText, readingText, choiceText}
-use Rattle.answers.specs.Laws.Texts.{bad-most, refusal-most, view-most, choice-most, read-most, output-most, sheet-most}
-use Rattle.answers.specs.Answers.{listed, readAnswer, writeAnswer, sheetAnswer, viewAnswer, chooseAnswer, removeAnswer, replaceAnswer, copyAnswer, asked, said, answerOf}
+use Rattle.answers.specs.Laws.Texts.{bad-most, refusal-most, view-most, choice-most, read-most, output-most, rebuilt-most, sheet-most}
+use Rattle.answers.specs.Answers.{listed, readAnswer, writeAnswer, sheetAnswer, viewAnswer, chooseAnswer, removeAnswer, replaceAnswer, copyAnswer, rebuildAnswer, asked, said, answerOf}
 
 -- ---- what an operation puts into an output of at most 300 octets
 
@@ -209,6 +211,10 @@ module _ (word : ℕ → List ℕ) where
   unfolding copyAnswer
   copy-answer-most = output-room (word 4) _ (copy-most (valueIn 255 (word 1)) (octetsIn (word 2)) (listIn (word 3)) (valueIn 300 (word 4)))
 
+  rebuild-answer-most : length (rebuildAnswer word) ≤ 2_000
+  unfolding rebuildAnswer
+  rebuild-answer-most = rebuilt-most (rebuildOf (octetsIn (word 1)) (valueIn 300 (word 2))) (rebuilt-few (octetsIn (word 1)) (valueIn 300 (word 2)) .1)
+
   write-answer-most : (from : ℕ → List (List ℕ)) → length (writeAnswer word from) ≤ 2_000
   unfolding writeAnswer
   write-answer-most from = output-room (word 1) _ (write-most (recordIn (from 2)) (valueIn 300 (word 1)))
@@ -227,7 +233,8 @@ asked-most q word from =
     (either-most (eqb q 4) _ _ (choose-answer-most word)
     (either-most (eqb q 5) _ _ (remove-answer-most word)
     (either-most (eqb q 6) _ _ (replace-answer-most word)
-    (either-most (eqb q 7) _ _ (copy-answer-most word) (omega (arith, bad-most 1)))))))))
+    (either-most (eqb q 7) _ _ (copy-answer-most word)
+    (either-most (eqb q 8) _ _ (rebuild-answer-most word) (omega (arith, bad-most 1))))))))))
 
 said-most : (j : Judged) (word : ℕ → List ℕ) (from : ℕ → List (List ℕ)) → length (said j word from) ≤ 2_000
 unfolding said

@@ -6,16 +6,19 @@ use native.Mathlib.Omega.{arith}
 use lib.IntN.{ℤ, pos, negsuc}
 use lib.ListN.{length, take, length-append, length-take}
 use Rattle.codec.specs.Frame.{Outcome, accepted, refused}
-use Rattle.papers.specs.Papers.{SLOTS}
+use Rattle.papers.specs.Papers.{SLOTS, LONGEST}
 use Rattle.layout.specs.declared.Answer.{Answer}
 use Rattle.layout.specs.declared.Answer.the-variants.{Accepted, Refused}
 use Rattle.layout.specs.declared.View.{View}
 use Rattle.layout.specs.declared.View.the-variants.{Shown, Hidden}
 use Rattle.layout.specs.declared.Record.{Record}
+use Rattle.layout.specs.Answer.{lengthOf}
+use Rattle.scope.specs.Outputs.{answerOf}
+use Rattle.scope.specs.Rebuilding.{octetsGiven}
 use Rattle.scope.specs.Sheet.{signedDecimal}
 use Rattle.text.specs.Hex.{pairText, pairsText, hexText}
 use Rattle.text.specs.Laws.Decimals.{decimal-most}
-use Rattle.replies.specs.Texts.{next, nextSigned, nextOctets, badRequest, refusalText, outputText, shownText, viewText, choiceIn, wordsText, recordText, readIn, lineOctet, sheetText}
+use Rattle.replies.specs.Texts.{next, nextSigned, nextOctets, badRequest, refusalText, outputText, rebuiltText, shownText, viewText, choiceIn, wordsText, recordText, readIn, lineOctet, sheetText}
 
 -- ---- words
 
@@ -87,6 +90,11 @@ pub output-most : (o : Outcome (List ℕ)) → ((b : List ℕ) → o ≡ accepte
 unfolding outputText
 output-most (accepted b) h = omega (arith, octets-most b, h b refl)
 output-most (refused n p) h = omega (arith, refusal-most n p)
+
+pub rebuilt-most : (o : Outcome (ℕ × List ℕ)) → lengthOf (answerOf (octetsGiven o)) ≤ LONGEST → length (rebuiltText o) ≤ 2_000
+unfolding rebuiltText octetsGiven answerOf lengthOf
+rebuilt-most (accepted x) h = omega (arith, length-append (next (x .0)) (nextOctets (x .1)), next-most (x .0), octets-most (x .1))
+rebuilt-most (refused n p) h = omega (arith, refusal-most n p)
 
 pub bad-most : (n : ℕ) → length (badRequest n) ≤ 32
 unfolding badRequest

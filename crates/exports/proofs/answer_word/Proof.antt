@@ -1,20 +1,11 @@
--- `exports::answer_word` meets its contract: one law for each case. Assumes nothing.
-use borrow.Author.Needs.{needs}
-use Rattle.interface.specs.Laws.Packed.{accepted-fits, accepted-word, refused-fits, refused-word}
+-- `exports::answer_word` meets its contract. Assumes nothing.
+use Rattle.interface.specs.Packed.{answerWord}
 use Rattle.exports.proofs.answer_word.Statement.{statement}
 use Rattle.exports.proofs.answer_word.Tie as tie
 
-word-requires : tie.Need-word-requires
-word-requires c κs = accepted-fits (c .before .a .given .1) (c .before .before .before .pre)
-
-word-requires-2 : tie.Need-word-requires-2
-word-requires-2 c κs = refused-fits (c .before .a2 .given .1) (c .before .before .before .pre)
-
 returns : tie.Need-returns
-returns c = accepted-word (c .before .before .a .given .1) (c .word .ensures)
-
-returns-2 : tie.Need-returns-2
-returns-2 c = refused-word (c .before .before .a2 .given .1) (c .word2 .ensures)
+unfolding answerWord
+returns c = c .beside-word .ensures
 
 pub answer-word-spec : {M : Type 1} → statement M
-answer-word-spec = tie.close (tie.spec (λ c. search needs) word-requires (λ c. search needs) word-requires-2 returns returns-2)
+answer-word-spec = tie.close (tie.spec (λ c κs. c .pre) returns)

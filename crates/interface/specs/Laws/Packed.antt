@@ -7,7 +7,7 @@ use Rattle.layout.specs.declared.Answer.the-variants.{Accepted, Refused}
 use Rattle.layout.specs.declared.View.{View}
 use Rattle.layout.specs.declared.View.the-variants.{Shown, Hidden}
 use Rattle.layout.specs.Answer.{numberOf, placeOf, lengthOf, viewNumber, viewPlace, viewLength}
-use Rattle.interface.specs.Packed.{wordOf, Fit, answerWord, sideWord}
+use Rattle.interface.specs.Packed.{wordOf, Fit, besideWord, sideWord}
 
 pub record Tells (w number which place size : ℕ) : Type 0 where
   pub number-is : w / 2 ^ 48 ≡ number
@@ -29,18 +29,18 @@ module _ {a : Answer} {n : ℕ} (e : a ≡ Accepted n) where
   unfolding placeOf lengthOf
   accepted-fits f = subst (λ x. Fit (placeOf x) (lengthOf x)) e f
 
-  pub accepted-word : {w : ℕ} → w ≡ wordOf 0 0 0 n → w ≡ answerWord a
-  unfolding answerWord numberOf placeOf lengthOf
-  accepted-word ew = rw e ew
+  pub accepted-word : (which : ℕ) {w : ℕ} → w ≡ wordOf 0 which 0 n → w ≡ besideWord which a
+  unfolding besideWord numberOf placeOf lengthOf
+  accepted-word which ew = rw e ew
 
 module _ {a : Answer} {n p : ℕ} (e : a ≡ Refused n p) where
   pub refused-fits : Fit (placeOf a) (lengthOf a) → Fit p 0
   unfolding placeOf lengthOf
   refused-fits f = subst (λ x. Fit (placeOf x) (lengthOf x)) e f
 
-  pub refused-word : {w : ℕ} → w ≡ wordOf n 0 p 0 → w ≡ answerWord a
-  unfolding answerWord numberOf placeOf lengthOf
-  refused-word ew = rw e ew
+  pub refused-word : (which : ℕ) {w : ℕ} → w ≡ wordOf n which p 0 → w ≡ besideWord which a
+  unfolding besideWord numberOf placeOf lengthOf
+  refused-word which ew = rw e ew
 
 -- ---- the cases of a view
 

@@ -62,12 +62,19 @@ returns-8 c =
     asked-as (a .q) (wordIn (now (a .line)) (now (a .starts))) (wordsFrom (now (a .line)) (now (a .starts))) 7 (m .match .keys8) (c .copy .ensures)
 
 returns-9 : tie.Need-returns-9
+unfolding asked
 returns-9 c =
+    let m = c .before .before in
+    let a = m .before .before .args in
+    asked-as (a .q) (wordIn (now (a .line)) (now (a .starts))) (wordsFrom (now (a .line)) (now (a .starts))) 8 (m .match .keys9) (c .rebuild .ensures)
+
+returns-10 : tie.Need-returns-10
+returns-10 c =
     let m = c .before .before in
     let a = m .before .before .args in
     let r = m .match .rest in
     none-asked (a .q) (wordIn (now (a .line)) (now (a .starts))) (wordsFrom (now (a .line)) (now (a .starts)))
-    (r .0 .0 .0 .0 .0 .0 .0 .1) (r .0 .0 .0 .0 .0 .0 .1) (r .0 .0 .0 .0 .0 .1) (r .0 .0 .0 .0 .1) (r .0 .0 .0 .1) (r .0 .0 .1) (r .0 .1) (r .1) (c .bad-request .ensures)
+    (r .0 .0 .0 .0 .0 .0 .0 .0 .1) (r .0 .0 .0 .0 .0 .0 .0 .1) (r .0 .0 .0 .0 .0 .0 .1) (r .0 .0 .0 .0 .0 .1) (r .0 .0 .0 .0 .1) (r .0 .0 .0 .1) (r .0 .0 .1) (r .0 .1) (r .1) (c .bad-request .ensures)
 
 pub asked-spec : {M : Type 1} → statement M
 asked-spec =
@@ -75,6 +82,7 @@ asked-spec =
     (tie.spec
     (λ c κs. tt)
     (λ c κs. c .before .before .before .pre)
+    (λ c κs. tt)
     (λ c κs. tt)
     (λ c κs. tt)
     (λ c κs. tt)
@@ -90,4 +98,5 @@ asked-spec =
     returns-6
     returns-7
     returns-8
-    returns-9)
+    returns-9
+    returns-10)

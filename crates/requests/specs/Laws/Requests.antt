@@ -25,6 +25,7 @@ use Rattle.text.specs.Laws.Typing.{types-as, types-behind}
 use Rattle.words.specs.Lines.{wordOf}
 use Rattle.words.specs.Numbers.{valueIn}
 use Rattle.words.specs.Laws.Numbers.{value-most}
+use Rattle.guess.specs.Guess.{rebuildOf}
 use Rattle.hex.specs.Octets.{octetsIn, listIn}
 use Rattle.protocol.specs.Line.{wordsOf, nth, wordsAt, placesFrom}
 use Rattle.protocol.specs.Forms.{forms, judgedBy, parseOf}
@@ -33,8 +34,8 @@ use Rattle.protocol.specs.Laws.Line.{words-placed, words-from}
 use Rattle.protocol.specs.Laws.Record.{record-short}
 use Rattle.protocol.specs.declared.Judged.the-variants.{Asks, Wrong}
 use Rattle.protocol.specs.declared.Parsed.{Parsed}
-use Rattle.replies.specs.Texts.{badRequest, refusalText, outputText, readingText, sheetText}
-use Rattle.answers.specs.Answers.{listed, viewed, chosen, readAnswer, writeAnswer, sheetAnswer, viewAnswer, chooseAnswer, removeAnswer, replaceAnswer, copyAnswer, asked, said, answerOf}
+use Rattle.replies.specs.Texts.{badRequest, refusalText, outputText, rebuiltText, readingText, sheetText}
+use Rattle.answers.specs.Answers.{listed, viewed, chosen, readAnswer, writeAnswer, sheetAnswer, viewAnswer, chooseAnswer, removeAnswer, replaceAnswer, copyAnswer, rebuildAnswer, asked, said, answerOf}
 
 -- the word of a line that starts at a place of the parser's, and all words from it on
 abbrev pub wordIn : List ℕ → List ℕ → ℕ → List ℕ
@@ -98,6 +99,10 @@ module _ (word : ℕ → List ℕ) {l m : List ℕ} {last : ℕ} where
       unfolding replaceAnswer
       replace-said eg er x = rw (← ec, ← ef, ← el, ← ei, ← eg, ← er) x
 
+  pub rebuild-said : {t : List ℕ} {room : ℕ} → t ≡ octetsIn (word 1) → room ≡ valueIn 300 (word 2) → Types (rebuiltText (rebuildOf t room)) l 0 m last → Types (rebuildAnswer word) l 0 m last
+  unfolding rebuildAnswer
+  rebuild-said et er x = rw (← et, ← er) x
+
   pub write-said : (from : ℕ → List (List ℕ)) {f : Record} {room : ℕ} → f ≡ recordIn (from 2) → room ≡ valueIn 300 (word 1) → Types (outputText (writeOf f room)) l 0 m last → Types (writeAnswer word from) l 0 m last
   unfolding writeAnswer
   write-said from ef er x = rw (← ef, ← er) x
@@ -108,16 +113,16 @@ module _ (q : ℕ) (word : ℕ → List ℕ) (from : ℕ → List (List ℕ)) {l
   pub asked-as : (k : ℕ) → q ≡ k → Types (asked k word from) l 0 m last → Types (asked q word from) l 0 m last
   asked-as k e x = rw e x
 
-  pub none-asked : (q ≡ 0 → ⊥) → (q ≡ 1 → ⊥) → (q ≡ 2 → ⊥) → (q ≡ 3 → ⊥) → (q ≡ 4 → ⊥) → (q ≡ 5 → ⊥) → (q ≡ 6 → ⊥) → (q ≡ 7 → ⊥)
+  pub none-asked : (q ≡ 0 → ⊥) → (q ≡ 1 → ⊥) → (q ≡ 2 → ⊥) → (q ≡ 3 → ⊥) → (q ≡ 4 → ⊥) → (q ≡ 5 → ⊥) → (q ≡ 6 → ⊥) → (q ≡ 7 → ⊥) → (q ≡ 8 → ⊥)
       → Types (badRequest 1) l 0 m last → Types (asked q word from) l 0 m last
   unfolding asked
-  none-asked a b c d e f g h x = rw (ne-eqb q 0 a, ne-eqb q 1 b, ne-eqb q 2 c, ne-eqb q 3 d, ne-eqb q 4 e, ne-eqb q 5 f, ne-eqb q 6 g, ne-eqb q 7 h) x
+  none-asked a b c d e f g h i x = rw (ne-eqb q 0 a, ne-eqb q 1 b, ne-eqb q 2 c, ne-eqb q 3 d, ne-eqb q 4 e, ne-eqb q 5 f, ne-eqb q 6 g, ne-eqb q 7 h, ne-eqb q 8 i) x
 
 -- ---- the whole line
 
 -- only the first words are looked at, and all from the third on
 same-asked : (q : ℕ) (u v : ℕ → List ℕ) (f g : ℕ → List (List ℕ)) → ((k : ℕ) → k < 10 → u k ≡ v k) → ((k : ℕ) → k < 10 → f k ≡ g k) → asked q u f ≡ asked q v g
-unfolding asked readAnswer writeAnswer sheetAnswer viewAnswer chooseAnswer removeAnswer replaceAnswer copyAnswer
+unfolding asked readAnswer writeAnswer sheetAnswer viewAnswer chooseAnswer removeAnswer replaceAnswer copyAnswer rebuildAnswer
 same-asked q u v f g h i = rw (h 1 (omega arith), h 2 (omega arith), h 3 (omega arith), h 4 (omega arith), h 5 (omega arith), h 6 (omega arith), i 2 (omega arith)) refl
 
 -- a request stands in a line that is not too long, so the places are those of its words
