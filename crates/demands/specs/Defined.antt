@@ -1,4 +1,4 @@
--- The program that scope defines, operation by operation.
+-- The program that scope and guess define, operation by operation.
 use mathlib.Core.List.{List}
 use Prim.Native.Nat.{ℕ}
 use lib.ListN.{length}
@@ -12,6 +12,8 @@ use Rattle.scope.specs.Desk.{editOf}
 use Rattle.scope.specs.Visitors.{copyOf}
 use Rattle.scope.specs.Sheet.{sheetOf}
 use Rattle.scope.specs.Angle.{udegOf, leftOf}
+use Rattle.scope.specs.Rebuilding.{categoryGiven, octetsGiven}
+use Rattle.guess.specs.Guess.{rebuildOf}
 use Rattle.demands.specs.Demands.{Program}
 
 -- an outcome, and the output that was lent
@@ -29,6 +31,7 @@ program = record {
   choose = chooseOf;
   chosen = λ cat b s item. chosenOf b s (chooseOf cat b s item);
   sheet = λ s out. handed (withRoom (length out) (sheetOf s)) out;
+  rebuild = λ t out. (categoryGiven (rebuildOf t (length out)), handed (octetsGiven (rebuildOf t (length out))) out);
   udeg = udegOf;
   left = leftOf;
 }

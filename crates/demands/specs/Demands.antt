@@ -31,6 +31,8 @@ pub record Program : Type 0 where
   pub chosen : ℕ → List ℕ → List ℕ → ℕ → List ℕ
   -- sheet::sheet(input, out)
   pub sheet : List ℕ → List ℕ → Answer × List ℕ
+  -- rebuild::rebuild(text, out): the category beside it
+  pub rebuild : List ℕ → List ℕ → ℕ × (Answer × List ℕ)
   -- angle::exact(n)
   pub udeg : ℤ → ℤ
   pub left : ℤ → ℤ

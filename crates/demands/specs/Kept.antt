@@ -15,6 +15,7 @@ pub mod Members
 pub mod Pressure
 pub mod Lines
 pub mod Leftovers
+pub mod Rebuilding
 
 pub kept : Demands program
 kept = record { one = demand1; two = demand2; three = demand3 }

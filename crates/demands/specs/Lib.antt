@@ -5,6 +5,7 @@ pub mod Visitors
 pub mod Members
 pub mod Pressure
 pub mod Leftovers
+pub mod Rebuilding
 pub mod Defined
 pub mod Kept
 pub mod Angles

@@ -48,6 +48,9 @@ pub use Rattle.scope.specs.Reading.{noRecord}
 pub use Rattle.scope.specs.Sheet.{sheetOf, keyLine, decimal, signedDecimal}
 pub use Rattle.papers.specs.Names.{text}
 pub use Rattle.scope.specs.Pressure.{stands}
+-- lines of a text; of a reading of fields: the texts printed for an accepted field, the value of `len` set aside, how far a
+-- text agrees with one of them, and the sheet of a field that has no octets but these
+pub use Rattle.scope.specs.Rebuilding.{areLines, Printed, Agrees, IsSheet}
 pub use Rattle.demands.specs.Angles.{Nearest, Exact}
 
 -- ---- fields of a category

@@ -337,16 +337,40 @@ none-goes-on t o r p q =
     let e : _≡_ {A = Told} (p .cat, p .len, what p) (q .cat, q .len, what q) = sym (printed-told p []) ∙ ap toldIn (append-nil u) ∙ printed-told q (o ∷ r) in
     longer t o r (printed-with p ∙ ap (λ (x : Told). sheetWith (x .0) (x .1) (x .2)) e ∙ sym (printed-with q))
 
--- "a last line without its line feed is such a line; the line after the last if the text merely stops early"
-pub cut-short : (t : List ℕ) (o : ℕ) (r : List ℕ) (room : ℕ) → Printed (t ++ (o ∷ r)) → rebuildOf t room ≡ refused 18 (suc (feeds t))
-cut-short t o r room p =
-    wrong-line t room (omega (arith, printed-short (t ++ (o ∷ r)) p, length-append t (o ∷ r))) (none-goes-on t o r p) (feeds t)
-    (record { sheet = t ++ (o ∷ r); printed = p; shared = through-shared (t ++ (o ∷ r)) t (feeds t) (front-shared t (o ∷ r)) })
-    (λ a.
+-- a text has no more whole lines than line feeds
+none-more : (t : List ℕ) → Agrees t (suc (feeds t)) → ⊥
+none-more t a =
     let s = a .shared in
     let e : feeds t ≡ feeds (s .front) + feeds (s .behind) = ap feeds (s .other-is) ∙ feeds-append (s .front) (s .behind) in
     let f : feeds (s .front) ≡ suc (feeds t) = lines-feeds (s .front) (suc (feeds t)) (s .lines-are) in
-    absurd (omega arith))
+    absurd (omega arith)
+
+-- "the line after the last if the text merely stops early"
+pub stops : (t : List ℕ) (room : ℕ) → length t ≤ 32_768 → (Printed t → ⊥) → Agrees t (feeds t) → rebuildOf t room ≡ refused 18 (suc (feeds t))
+stops t room short np a = wrong-line t room short np (feeds t) a (none-more t)
+
+-- as the front of a printed text does
+pub cut-short : (t : List ℕ) (o : ℕ) (r : List ℕ) (room : ℕ) → Printed (t ++ (o ∷ r)) → rebuildOf t room ≡ refused 18 (suc (feeds t))
+cut-short t o r room p =
+    stops t room (omega (arith, printed-short (t ++ (o ∷ r)) p, length-append t (o ∷ r))) (none-goes-on t o r p)
+    (record { sheet = t ++ (o ∷ r); printed = p; shared = through-shared (t ++ (o ∷ r)) t (feeds t) (front-shared t (o ∷ r)) })
+
+-- a printed text ends with a line feed
+pub printed-ends : (t : List ℕ) → Printed t → (before : List ℕ) × (t ≡ before ++ (10 ∷ []))
+unfolding sheetWith keyLine
+printed-ends t p =
+    let r : Contents = what p in
+    let a : List ℕ = keyLine (text "cat") (decimal (p .cat)) in
+    let b : List ℕ = keyLine (text "len") (decimal (p .len)) in
+    let c : List ℕ = keyLine (text "items") (itemsText [] (flags (r .0)) (namesOf (p .cat))) in
+    let d : List ℕ = rowText (flags (r .0)) (paperOf (p .cat)) (namesOf (p .cat)) (r .1) in
+    let e : List ℕ = text "end=ok" in
+    let f : List ℕ = 10 ∷ [] in (
+      a ++ (b ++ (c ++ (d ++ e))),
+      printed-with p
+          ∙ ap (λ x. a ++ (b ++ (c ++ x))) (sym (append-assoc d e f)) ∙ ap (λ x. a ++ (b ++ x)) (sym (append-assoc c (d ++ e) f))
+          ∙ ap (a ++_) (sym (append-assoc b (c ++ (d ++ e)) f)) ∙ sym (append-assoc a (b ++ (c ++ (d ++ e))) f),
+    )
 
 -- text behind `end=ok`
 pub goes-on : (t : List ℕ) (o : ℕ) (r : List ℕ) (room : ℕ) → length (t ++ (o ∷ r)) ≤ 32_768 → Printed t → rebuildOf (t ++ (o ∷ r)) room ≡ refused 18 (suc (feeds t))

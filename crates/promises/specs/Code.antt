@@ -45,6 +45,9 @@ use Rattle.views.proofs.choose.Reads as choose-claims
 use Rattle.sheet.proofs.sheet.Statement as sheet
 use Rattle.sheet.proofs.sheet.Met as sheet-met
 use Rattle.sheet.proofs.sheet.Reads as sheet-claims
+use Rattle.rebuild.proofs.rebuild.Statement as rebuild
+use Rattle.rebuild.proofs.rebuild.Met as rebuild-met
+use Rattle.rebuild.proofs.rebuild.Reads as rebuild-claims
 use Rattle.angle.proofs.exact.Statement as exact
 use Rattle.angle.proofs.exact.Met as exact-met
 use Rattle.angle.proofs.exact.Reads as exact-claims
@@ -91,6 +94,9 @@ pub record Computes (p : Program) : Type 2 where
       (p .choose (args .0) (now (args .1 .0)) (now (args .1 .1 .0)) (args .1 .1 .1 .0))))
   pub sheet : Runs sheet.statement sheet-claims.Pre sheet-claims.Post
       (λ args a ends. Handed a (now (ends .1 .0)) (p .sheet (now (args .0)) (now (args .1 .0))))
+  pub rebuild : Runs rebuild.statement rebuild-claims.Pre rebuild-claims.Post
+      (λ args r ends. (r .cat ≡ p .rebuild (now (args .0)) (now (args .1 .0)) .0)
+      × Handed (r .answer) (now (ends .1 .0)) (p .rebuild (now (args .0)) (now (args .1 .0)) .1))
   pub exact : Runs exact.statement exact-claims.Pre exact-claims.Post
       (λ args a ends. (a .udeg ≡ p .udeg (args .0)) × (a .left ≡ p .left (args .0)))
 
@@ -109,5 +115,6 @@ computed = record {
   choose-answer = record { runs = choose-answer-met.met; asks = λ lives args. tt; gives = λ lives args c ends p. p };
   choose = record { runs = choose-met.met; asks = λ lives args. tt; gives = λ lives args x ends p. p };
   sheet = record { runs = sheet-met.met; asks = λ lives args. tt; gives = λ lives args a ends. handing };
+  rebuild = record { runs = rebuild-met.met; asks = λ lives args. tt; gives = λ lives args r ends p. (p .category, handing (p .leaves)) };
   exact = record { runs = exact-met.met; asks = λ lives args. tt; gives = λ lives args a ends p. p };
 }
