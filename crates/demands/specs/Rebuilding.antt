@@ -1,6 +1,6 @@
 -- Reading the sheet back (02, Ask 6), each sentence quoted above its statements. They are of a program, as those of
 -- Demands; Terms has the words. What is printed, and how far a text agrees with it, is said of the program's own reading.
-use Rattle.demands.specs.Terms.{_≡_, _≢_, List, [], _∷_, _++_, ℕ, suc, _≤_, _<_, T, length, take, Octets, lenOf}
+use Rattle.demands.specs.Terms.{_≡_, _≢_, List, _∷_, _++_, ℕ, suc, _≤_, _<_, T, length, take, Octets, lenOf}
 use Rattle.demands.specs.Terms.{Answer, Accepted, sheetOf, text, Record, IsField, Fault, refusedBy, handedOut, areLines}
 use Rattle.demands.specs.Terms as term
 use Rattle.demands.specs.Demands.{Program}
@@ -60,8 +60,10 @@ module _ (p : Program) where
     pub no-feed : (k : ℕ) (lines : List ℕ) (o : ℕ) (rest out : List ℕ) → T (areLines k lines)
         → Nowhere (text "\n") (o ∷ rest) → Agrees (lines ++ (o ∷ rest)) k → length (lines ++ (o ∷ rest)) ≤ 32_768
         → p .rebuild (lines ++ (o ∷ rest)) out ≡ refusedAt 18 (suc k) out
-    -- "the line after the last if the text merely stops early", and if it goes on behind a sheet
-    pub stops : (k : ℕ) (lines out : List ℕ) → T (areLines k lines) → Agrees lines k → (Printed lines → ⊥)
-        → length lines ≤ 32_768 → p .rebuild lines out ≡ refusedAt 18 (suc k) out
+    -- "the line after the last if the text merely stops early": with what is missing it would be a sheet; and behind a sheet
+    -- nothing follows
+    pub stops : (k : ℕ) (lines rest : List ℕ) (o : ℕ) (missing out : List ℕ) → T (areLines k lines)
+        → Nowhere (text "\n") rest → Printed ((lines ++ rest) ++ (o ∷ missing))
+        → p .rebuild (lines ++ rest) out ≡ refusedAt 18 (suc k) out
     pub goes-on : (k : ℕ) (lines : List ℕ) (o : ℕ) (more out : List ℕ) → T (areLines k lines) → Printed lines
         → length (lines ++ (o ∷ more)) ≤ 32_768 → p .rebuild (lines ++ (o ∷ more)) out ≡ refusedAt 18 (suc k) out

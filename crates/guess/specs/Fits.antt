@@ -1,13 +1,11 @@
 -- The lines of a text, and how far a printed text agrees with another. Every law about agreement is in continuation form: what is to hold behind a printed text, K, is a
 -- parameter of Fits, so that texts behind each other are Fits within Fits, and no case is split on how many lines there are.
-use mathlib.Core.Path.{_≡_, refl, sym, ap, ap₂, _∙_, subst}
+use mathlib.Core.Path.{_≡_, refl, sym, ap, _∙_, subst}
 use mathlib.Core.Bool.{Bool, true, false, not, _&&_}
-use mathlib.Core.List.{List, [], _∷_, _++_, append-assoc}
-use Prim.Native.Nat.{ℕ, zero, suc, _+_, _-_, _≤_, _<_}
+use mathlib.Core.List.{List, [], _∷_, _++_}
+use Prim.Native.Nat.{ℕ, zero, suc, _+_, _<_}
 use native.Mathlib.Omega.{arith}
-use borrow.Author.Tests.{eq-eqb, eqb-true, not-true}
 use lib.Dec.{T, eqb}
-use lib.ListN.{length}
 use Rattle.codec.specs.Pick.{pick}
 use Rattle.codec.specs.Laws.Tests.{and-in, and-l, and-r, holds}
 

@@ -4,13 +4,12 @@ use mathlib.Core.Bool.{Bool, true, false, _&&_}
 use mathlib.Core.List.{List, [], _∷_, _++_}
 use Prim.Native.Nat.{ℕ, zero, suc, _+_, _-_, _^_, _≤_, _<_}
 use native.Mathlib.Omega.{arith}
-use borrow.Author.Tests.{lt-ltb}
 use lib.Dec.{T, eqb, ltb, ltb→lt, lt→ltb, eqb→eq}
 use lib.IntN.{ℤ, pos, negsuc}
 use lib.ListN.{length, getD, take, drop, replicate, take-append-drop, length-append}
-use lib.Seq.{take-at, drop-at, drop-cons, length-take-le}
-use Rattle.codec.specs.Line.{Kind, plain, signed, limited, Piece, spare, num, Line, inNum, limit, fitNums, inLimits, count}
-use Rattle.codec.specs.Item.{slotsOf, isZero, zeros, isOne, flagged}
+use lib.Seq.{drop-cons, length-take-le}
+use Rattle.codec.specs.Line.{plain, signed, limited, Piece, spare, num, Line, inNum, limit, fitNums, inLimits, count}
+use Rattle.codec.specs.Item.{slotsOf, isOne}
 use Rattle.codec.specs.Laws.Tests.{and-in, and-l, and-r}
 use Rattle.scope.specs.Sheet.{partsThere, subfieldsThere}
 use Rattle.guess.specs.Guess.{bit, bits}

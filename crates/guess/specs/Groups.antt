@@ -1,10 +1,10 @@
 -- The parts of a chain and the subfields of an item: those that are there are known (parts), or told by how the text begins (subfields).
 use mathlib.Core.Path.{_≡_, refl, sym, ap, ap₂, _∙_, subst}
-use mathlib.Core.Bool.{Bool, true, false, not, _&&_}
+use mathlib.Core.Bool.{Bool, true, false, _&&_}
 use mathlib.Core.List.{List, [], _∷_, _++_}
-use Prim.Native.Nat.{ℕ, zero, suc, _+_, _-_, _≤_, _<_}
+use Prim.Native.Nat.{ℕ, suc, _-_}
 use native.Mathlib.Omega.{arith}
-use borrow.Author.Tests.{eq-eqb, eqb-true}
+use borrow.Author.Tests.{eq-eqb}
 use lib.Dec.{T, eqb, ltb, eqb→eq}
 use lib.IntN.{ℤ, pos}
 use lib.ListN.{length, take, drop, replicate, take-append-drop, length-replicate}
@@ -157,7 +157,7 @@ apart-not (o ∷ w) (p ∷ h) (x ∷ t) a b c =
     let e : o ≡ p = sym (eqb→eq x o (and-l (eqb x o) _ b)) ∙ eqb→eq x p (and-l (eqb x p) _ c) in
     apart-not w h t (subst (λ z. T (pick z (apart w h) true)) (eq-eqb o p e) a) (and-r (eqb x o) _ b) (and-r (eqb x p) _ c)
 
-pub starts-apart : (w : List ℕ) (hs : List (List ℕ)) (t : List ℕ) → T (apartAll w hs) → T (startsAny hs t) → begins w t ≡ false
+starts-apart : (w : List ℕ) (hs : List (List ℕ)) (t : List ℕ) → T (apartAll w hs) → T (startsAny hs t) → begins w t ≡ false
 unfolding apartAll startsAny
 starts-apart w [] t a s = absurd s
 starts-apart w (h ∷ hs) t a s = go (begins h t) refl (begins w t) refl s (λ s. starts-apart w hs t (and-r (apart w h) _ a) s)
@@ -167,7 +167,7 @@ starts-apart w (h ∷ hs) t a s = go (begins h t) refl (begins w t) refl s (λ s
     go true e false f s k = refl
     go false e y f s k = sym f ∙ k s
 
-pub starts-left : (hs gs : List (List ℕ)) (t : List ℕ) → T (startsAny hs t) → T (startsAny (hs ++ gs) t)
+starts-left : (hs gs : List (List ℕ)) (t : List ℕ) → T (startsAny hs t) → T (startsAny (hs ++ gs) t)
 unfolding startsAny
 starts-left [] gs t s = absurd s
 starts-left (h ∷ hs) gs t s = go (begins h t) s (starts-left hs gs t)

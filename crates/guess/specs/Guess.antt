@@ -2,7 +2,7 @@
 -- something that can be printed is taken; the comparison of the guess's own sheet with the text then finds that line.
 use mathlib.Core.Bool.{Bool, true, false, _&&_}
 use mathlib.Core.List.{List, [], _∷_, _++_}
-use Prim.Native.Nat.{ℕ, zero, suc, _+_, _-_}
+use Prim.Native.Nat.{ℕ, suc, _-_}
 use lib.Dec.{ltb, leb, eqb}
 use lib.IntN.{ℤ, pos}
 use lib.ListN.{length, take, drop, replicate}

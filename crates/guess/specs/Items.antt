@@ -2,25 +2,24 @@
 use mathlib.Core.Path.{_≡_, refl, sym, ap, ap₂, _∙_, subst}
 use mathlib.Core.Bool.{Bool, true, false, _&&_}
 use mathlib.Core.List.{List, [], _∷_, _++_, append-nil}
-use Prim.Native.Nat.{ℕ, zero, suc, _+_, _-_, _^_, _≤_, _<_}
+use Prim.Native.Nat.{ℕ, suc, _-_, _^_, _≤_, _<_}
 use native.Mathlib.Nat.{le-of-eq}
 use native.Mathlib.Omega.{arith}
 use lib.Dec.{T, eqb, ltb, ltb→lt, eqb→eq}
-use lib.IntN.{ℤ, pos}
-use lib.ListN.{length, take, drop, length-append, take-append-drop, drop-of-length-le, length-take, length-drop}
-use lib.Seq.{take-all, take-at, drop-at, take-take, drop-drop, length-take-le}
+use lib.IntN.{ℤ}
+use lib.ListN.{length, take, drop, length-append, take-append-drop, drop-of-length-le, length-drop}
+use lib.Seq.{take-all, take-at, drop-at, drop-drop}
 use Rattle.codec.specs.Pick.{pick}
-use Rattle.codec.specs.Codec.{Codec}
-use Rattle.codec.specs.Line.{Line, Held, count, fills, line as lineCodec}
-use Rattle.codec.specs.Item.{Item, chained, single, slotsOf, slots, linesOf, zeros, beside, chain, subfields, item, goodLines, goodItem}
+use Rattle.codec.specs.Line.{Line, Held, count, line as lineCodec}
+use Rattle.codec.specs.Item.{Item, chained, single, slotsOf, linesOf, zeros, beside, chain, subfields, item, goodLines, goodItem}
 use Rattle.codec.specs.Laws.Tests.{and-in, and-l, and-r, holds}
 use Rattle.codec.specs.Laws.Item.{beside-first, beside-second, chain-length}
 use Rattle.papers.specs.Names.{text, Key, hidden, shown, angle, pressure, Named}
 use Rattle.scope.specs.Sheet.{keyLine, decimal, numberText, numbersText, partsThere, subfieldsThere, linesThere, linesText, chainText, itemText}
-use Rattle.guess.specs.Fits.{untilFeed, hasFeed, behindFeed, behindFeeds, feeds, without, whole, whole-append, Fits, by-lines, fits-nil, fits-open, fits-split, fits-join, fits-then}
-use Rattle.guess.specs.Guess.{valueIn, boundedIn, takenLines, leftLines, begins, openIn, bits, countIn, behindCount, thereIn, keysIn, itemNumbers, itemIn, itemLeft}
+use Rattle.guess.specs.Fits.{behindFeed, behindFeeds, without, whole, whole-append, Fits, by-lines, fits-nil, fits-open, fits-split, fits-join, fits-then}
+use Rattle.guess.specs.Guess.{boundedIn, takenLines, leftLines, begins, openIn, bits, countIn, behindCount, thereIn, keysIn, itemNumbers, itemIn, itemLeft}
 use Rattle.guess.specs.Numbers.{line-whole, line-has, line-until, line-feeds, value-is, bounded-back, bounded-in, decimal-clean, key-begins}
-use Rattle.guess.specs.Groups.{linesOk, listedLines, lines-whole, keep-lines, lines-ok, startsAny, starts-left, starts-right, headsOf, Begins, lines-begin, allowed, headsApart, keep-groups, open-allowed, open-length, listed-length}
+use Rattle.guess.specs.Groups.{linesOk, listedLines, lines-whole, keep-lines, lines-ok, startsAny, starts-right, headsOf, Begins, lines-begin, allowed, headsApart, keep-groups, open-allowed, open-length, listed-length}
 use Rattle.guess.specs.Okay.{lines-length, chain-lines, lines-chain, subfields-lines, lines-subfields, single-lines, lines-single}
 use Rattle.guess.specs.Flags.{onesOf, allBits, ones-bits, bits-ones, length-bits, bitLines, part-flags, flags-parts, inOrder, there-ones, there-length, parts-length}
 

@@ -11,3 +11,4 @@ pub mod Papers
 pub mod Whole
 pub mod Wrong
 pub mod Rebuilt
+pub mod Examples

@@ -3,13 +3,12 @@
 use mathlib.Core.Path.{_≡_, refl, sym, ap, ap₂, _∙_, subst}
 use mathlib.Core.Bool.{Bool, true, false, not, _&&_}
 use mathlib.Core.List.{List, [], _∷_, _++_, append-assoc}
-use Prim.Native.Nat.{ℕ, zero, suc, _+_, _-_, _^_, _≤_, _<_}
+use Prim.Native.Nat.{ℕ, zero, suc, _+_, _^_, _≤_, _<_}
 use native.Mathlib.Omega.{arith}
-use borrow.Author.Tests.{eq-eqb, eqb-true, eqb-false, ne-eqb, not-true, le-leb}
-use lib.Dec.{T, eqb, leb, ltb, ltb→lt, leb→le, eqb→eq}
+use borrow.Author.Tests.{eq-eqb, ne-eqb, not-true, le-leb}
+use lib.Dec.{T, eqb, leb, ltb, ltb→lt, leb→le}
 use lib.Pow.{pow-mono}
 use lib.IntN.{ℤ, pos, negsuc, _+ℤ_}
-use lib.ListN.{length, take, drop}
 use Rattle.codec.specs.Pick.{pick}
 use Rattle.codec.specs.Line.{Kind, Piece, spare, num, inNum, limit, plain, signed, limited, fitNums, inLimits, count}
 use Rattle.codec.specs.Signed.{inSigned}
@@ -19,11 +18,11 @@ use Rattle.codec.specs.Laws.Tests.{and-in, and-l, and-r, holds}
 use Rattle.papers.specs.Names.{text, Key, hidden, shown, angle, pressure}
 use Rattle.scope.specs.Angle.{udegOf, leftOf}
 use Rattle.scope.specs.Sheet.{keyLine, digitsOf, decimal, signedDecimal, numberText, numbersText}
-use Rattle.scope.specs.Pressure.{tenthsOf, senseOf}
-use Rattle.words.specs.Numbers.{isSigned, signedValue, signedIn, numberIn}
+use Rattle.scope.specs.Pressure.{senseOf}
+use Rattle.words.specs.Numbers.{signedIn, numberIn}
 use Rattle.words.specs.Laws.Numbers.{signed-value}
 use Rattle.words.specs.Laws.Written.{Signed32, signed-is-number, signed-taken, written-taken}
-use Rattle.guess.specs.Fits.{beforeOctet, behindOctet, untilFeed, hasFeed, behindFeed, behindFeeds, feeds, without, without-append, whole, whole-append, whole-feed, has-append, until-append, feeds-append, Fits, fits-none, fits-open, fits-close, fits-split, fits-join, fits-then}
+use Rattle.guess.specs.Fits.{beforeOctet, behindOctet, untilFeed, hasFeed, behindFeed, behindFeeds, feeds, without, without-append, whole, whole-append, whole-feed, has-append, until-append, feeds-append, Fits, fits-none, fits-open, fits-split, fits-join, fits-then}
 use Rattle.guess.specs.Guess.{valueIn, fitsPiece, pieceIn, boundedIn, linesFor, behindKeys, numbersIn, begins, keyText, headOf}
 
 -- ---- a line
@@ -111,7 +110,7 @@ bounded-in lo hi t h = go (numberIn hi (valueIn t)) (leb lo (numberIn hi (valueI
     go v true ea false eb = (omega arith, h)
     go v false ea b eb = (omega arith, h)
 
-pub piece-in : (k : Kind) (w : ℕ) (t : List ℕ) → T (fitsPiece k w (pos 0)) → T (fitsPiece k w (pieceIn k w t))
+piece-in : (k : Kind) (w : ℕ) (t : List ℕ) → T (fitsPiece k w (pos 0)) → T (fitsPiece k w (pieceIn k w t))
 unfolding pieceIn
 piece-in k w t z = go (fitsPiece k w (signedIn (valueIn t))) refl
   where
@@ -176,7 +175,7 @@ sense-clean (pos n) = go (eqb n 0) (eqb n 4_095)
     go false false = tt
 sense-clean (negsuc n) = tt
 
-pub number-whole : (key : Key) (z : ℤ) → T (whole (numberText key z))
+number-whole : (key : Key) (z : ℤ) → T (whole (numberText key z))
 unfolding numberText whole
 number-whole hidden z = tt
 number-whole (shown k) z = line-whole k (signedDecimal z)
@@ -247,10 +246,6 @@ listed ks (spare w ∷ ps) = listed ks ps
 listed [] (num k w ∷ ps) = false
 listed (key ∷ ks) (num k w ∷ ps) = (listedKey key && (leb w 24 && fitsPiece k w (pos 0))) && listed ks ps
 
--- the numbers fit their pieces and are within their limits
-unfoldable pub fit : List Piece → List ℤ → Bool
-fit ps zs = fitNums ps zs && inLimits ps zs
-
 pub keep-numbers : (ks : List Key) (ps : List Piece) (zs : List ℤ) → T (listed ks ps) → T (fitNums ps zs) → T (inLimits ps zs) → (n : ℕ) (t : List ℕ) (K K′ : ℕ → List ℕ → Type 0)
     → Fits n (numbersText ks zs) t K → (numbersIn ks ps t ≡ zs → (m : ℕ) → K (suc m) (behindKeys ks t) → K′ (suc m) (behindKeys ks t)) → Fits n (numbersText ks (numbersIn ks ps t)) t K′
 unfolding numbersText numbersIn behindKeys listed fitNums inLimits fitsPiece Fits
@@ -289,13 +284,13 @@ numbers-fit (key ∷ ks) (num k w ∷ ps) q t =
 
 -- ---- how a text begins
 
-pub begins-front : (w v : List ℕ) → T (begins w (w ++ v))
+begins-front : (w v : List ℕ) → T (begins w (w ++ v))
 unfolding begins
 begins-front [] v = tt
 begins-front (o ∷ w) v = and-in (eqb o o) _ (subst T (sym (eq-eqb o o refl)) tt) (begins-front w v)
 
 -- a word that begins the first line begins the text
-pub line-begins : (w t : List ℕ) → T (begins w (untilFeed t)) → T (begins w t)
+line-begins : (w t : List ℕ) → T (begins w (untilFeed t)) → T (begins w t)
 unfolding begins beforeOctet
 line-begins [] t h = tt
 line-begins (o ∷ w) [] h = h

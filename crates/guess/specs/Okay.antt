@@ -2,27 +2,27 @@
 use mathlib.Core.Path.{_≡_, refl, sym, ap, ap₂, _∙_, subst}
 use mathlib.Core.Bool.{Bool, true, false, _&&_}
 use mathlib.Core.List.{List, [], _∷_, _++_}
-use Prim.Native.Nat.{ℕ, zero, suc, _+_, _-_, _*_, _^_, _≤_, _<_}
+use Prim.Native.Nat.{ℕ, suc, _+_, _-_, _*_, _^_, _≤_, _<_}
 use native.Mathlib.Omega.{arith}
 use native.Mathlib.Nat.{le-of-eq}
-use borrow.Author.Tests.{lt-ltb, le-ltb, eq-eqb, eqb-true, ltb-false}
+use borrow.Author.Tests.{lt-ltb, eq-eqb, ltb-false}
 use lib.Arith.{digits-lt}
-use lib.Dec.{T, eqb, ltb, leb, ltb→lt, lt→ltb, eqb→eq}
+use lib.Dec.{T, eqb, ltb, ltb→lt, lt→ltb, eqb→eq}
 use lib.IntN.{ℤ, pos, negsuc}
 use lib.ListN.{length, take, drop, replicate, length-append, length-replicate, take-append-drop, drop-of-length-le, replicate-append-replicate}
 use lib.Pow.{pow-add, pow-pos}
-use lib.Seq.{take-all, take-at, drop-at, length-take-le}
+use lib.Seq.{take-all, take-at, drop-at}
 use Rattle.codec.specs.Pick.{pick}
-use Rattle.codec.specs.Radix.{total, cut, join, digits, eights}
+use Rattle.codec.specs.Radix.{total, join, digits, eights}
 use Rattle.codec.specs.Codec.{Codec, opt, number}
 use Rattle.codec.specs.Signed.{ofSigned, inSigned}
-use Rattle.codec.specs.Line.{Kind, plain, signed, limited, Piece, spare, num, Line, Held, inNum, ofNum, fitNums, inLimits, widths, unnums, clear, count, cells, line, fills}
+use Rattle.codec.specs.Line.{Kind, plain, signed, limited, Piece, spare, num, Line, Held, inNum, ofNum, fitNums, widths, unnums, clear, count, cells, line, fills}
 use Rattle.codec.specs.Item.{slotsOf, zeros, nothing, beside, fxOf, chain, flagged, subfields, goodLines}
-use Rattle.codec.specs.Laws.Tests.{and-in, and-l, and-r, holds}
+use Rattle.codec.specs.Laws.Tests.{and-in, and-l, and-r}
 use Rattle.codec.specs.Laws.Radix.{join-lt}
 use Rattle.codec.specs.Laws.Codec.{number-okay}
 use Rattle.codec.specs.Laws.Line.{line-count}
-use Rattle.codec.specs.Laws.Item.{zeros-are, zeros-yes, beside-first, beside-second, opt-length, chain-parts}
+use Rattle.codec.specs.Laws.Item.{zeros-are, zeros-yes, beside-first, beside-second, opt-length}
 use Rattle.scope.specs.Sheet.{partsThere, subfieldsThere}
 use Rattle.guess.specs.Groups.{lineOk, linesOk, fit-length}
 
@@ -100,7 +100,7 @@ one-line b l zs o =
     (subst (λ x. T (lineOk b l x)) (sym (take-all (count (l .pieces)) zs (le-of-eq e))) o)
     (subst (λ x. T (linesOk [] [] x)) (sym (drop-of-length-le zs {i = count (l .pieces)} (le-of-eq e))) tt)
 
-pub line-one : (b : Bool) (ts : List Bool) (l : Line) (zs : List ℤ) → T (linesOk (b ∷ ts) (l ∷ []) zs) → T (lineOk b l zs)
+line-one : (b : Bool) (ts : List Bool) (l : Line) (zs : List ℤ) → T (linesOk (b ∷ ts) (l ∷ []) zs) → T (lineOk b l zs)
 unfolding linesOk slotsOf
 line-one b ts l zs o =
     let e : length zs ≡ count (l .pieces) + 0 = lines-length (b ∷ ts) (l ∷ []) zs o in

@@ -1,12 +1,11 @@
 -- What holds of every paper and its names, by computed tests: what the walk asks of each item, and the line `items` of every indicator.
-use mathlib.Core.Path.{_≡_, refl, sym, ap, _∙_, subst}
+use mathlib.Core.Path.{_≡_, refl, sym, subst}
 use mathlib.Core.Bool.{Bool, true, false, _&&_}
 use mathlib.Core.List.{List, [], _∷_, _++_}
-use Prim.Native.Nat.{ℕ, zero, suc, _+_, _-_, _^_, _≤_, _<_}
-use native.Mathlib.Omega.{arith}
-use borrow.Author.Tests.{eqb-true, eqb-false}
-use lib.Dec.{T, eqb, ltb, leb, leb→le, eqb→eq}
-use lib.ListN.{length, drop, replicate}
+use Prim.Native.Nat.{ℕ, _≤_, _<_}
+use borrow.Author.Tests.{eqb-true}
+use lib.Dec.{T, eqb, leb→le, eqb→eq}
+use lib.ListN.{length}
 use Rattle.codec.specs.Pick.{pick}
 use Rattle.codec.specs.Radix.{total, cut, join}
 use Rattle.codec.specs.Signed.{inSigned}
@@ -14,9 +13,9 @@ use Rattle.codec.specs.Line.{inNum, limit, widths, count, fills}
 use Rattle.codec.specs.Item.{slotsOf, goodLines, goodItem}
 use Rattle.codec.specs.Field.{firstFlag, nextFlags, flags, allZero, noSpare}
 use Rattle.codec.specs.Laws.Tests.{and-l, and-r, holds, up-to}
-use Rattle.papers.specs.Cat048.{printed048, cat048}
-use Rattle.papers.specs.Cat021.{printed021, cat021}
-use Rattle.papers.specs.Cat007.{printed007, cat007}
+use Rattle.papers.specs.Cat048.{cat048}
+use Rattle.papers.specs.Cat021.{cat021}
+use Rattle.papers.specs.Cat007.{cat007}
 use Rattle.papers.specs.Names.{text, names048, names021, names007, namesOf}
 use Rattle.papers.specs.Papers.{known, paperOf}
 use Rattle.scope.specs.Sheet.{decimal, digitsOf, itemsText}

@@ -1,33 +1,29 @@
 -- What the answer says (02, Ask 6): sheets of accepted fields come back, what is given prints as the text, and every other text is refused at the line at which no printed sheet
 -- could still agree with it, or at line 2 if only the length is wrong.
-use mathlib.Core.Path.{_≡_, refl, sym, ap, ap₂, _∙_, subst}
+use mathlib.Core.Path.{_≡_, refl, sym, ap, _∙_, subst}
 use mathlib.Core.Bool.{Bool, true, false, _&&_}
 use mathlib.Core.List.{List, [], _∷_, _++_, append-nil, append-assoc}
-use Prim.Native.Nat.{ℕ, zero, suc, _+_, _-_, _≤_, _<_}
+use Prim.Native.Nat.{ℕ, zero, suc, _+_, _≤_, _<_}
 use native.Mathlib.Omega.{arith}
 use borrow.Author.Tests.{eq-eqb, ne-eqb, eqb-true, eqb-false, le-leb, le-ltb, lt-ltb, ltb-true, ltb-false, leb-true, leb-false, lt-leb}
-use lib.Dec.{T, eqb, ltb, leb, ltb→lt, lt→ltb, leb→le, eqb→eq}
+use lib.Dec.{T, eqb, ltb, leb, ltb→lt, leb→le}
 use lib.ListN.{length, getD, take, drop, length-append}
 use lib.Seq.{drop-at, take-length}
 use Rattle.codec.specs.Pick.{pick}
-use Rattle.codec.specs.Codec.{Octets, Lawful}
+use Rattle.codec.specs.Codec.{Octets}
 use Rattle.codec.specs.Field.{Contents, body, flags}
 use Rattle.codec.specs.Frame.{Outcome, accepted, refused, readFrame, writeFrame, okayFrame}
 use Rattle.codec.specs.Meaning.{lenOf}
 use Rattle.codec.specs.Laws.Tests.{and-in, and-l, and-r, holds}
-use Rattle.codec.specs.Laws.Field.{lawful-body}
 use Rattle.codec.specs.Laws.Longest.{field-size}
-use Rattle.codec.specs.Laws.Frame.{refused≢accepted, Front, accepted-front, read-again}
 use Rattle.papers.specs.Names.{text, namesOf}
 use Rattle.papers.specs.Papers.{known, paperOf, LONGEST}
-use Rattle.layout.specs.Record.{flatten, unflatten, fitsPaper, contents}
-use Rattle.papers.specs.Laws.Papers.{good-paper, few-octets}
+use Rattle.papers.specs.Laws.Papers.{few-octets}
 use Rattle.layout.specs.Answer.{placeOf, lengthOf}
-use Rattle.layout.specs.Laws.Record.{unflatten-flatten}
 use Rattle.layout.specs.declared.Reading.{Reading}
 use Rattle.layout.specs.declared.Answer.the-variants.{Accepted}
 use Rattle.scope.specs.Reading.{fieldOf, readOf}
-use Rattle.scope.specs.Rebuilding.{areLines, Shared, long, line-wrong, length-wrong, no-room, octetsGiven}
+use Rattle.scope.specs.Rebuilding.{long, line-wrong, length-wrong, no-room, categoryGiven, octetsGiven}
 use Rattle.scope.specs.Rebuilding as rebuilding
 use Rattle.scope.specs.Outputs.{answerOf}
 use Rattle.scope.specs.Laws.Reading.{Read, read-found, read-made, kept-made, read-front, read-okay, afresh-read, afresh-octets}
@@ -40,7 +36,7 @@ use Rattle.guess.specs.Guess.{categoryIn, lengthIn, guessOf, sheetWith, 
 use Rattle.guess.specs.Numbers.{line-has, line-behind, decimal-clean}
 use Rattle.guess.specs.Papers.{by-known}
 use Rattle.guess.specs.Whole.{Told, toldIn, sheetIn, category-in, length-in, guess-okay, keep-sheet, sheet-told}
-use Rattle.guess.specs.Wrong.{through, through-shared, shared-same, Same, same-through, wrong-none, wrong-behind, wrong-self, wrong-from, wrong-through, lines-feeds, front-shared}
+use Rattle.guess.specs.Wrong.{through, through-shared, shared-same, Same, same-through, wrong-none, wrong-behind, wrong-self, wrong-through, lines-feeds, front-shared}
 
 abbrev pub Printed : List ℕ → Type 0
 Printed = rebuilding.Printed readOf
@@ -132,12 +128,12 @@ module _ (cat : ℕ) (k : T (known cat)) (r : Contents) (o : T ((body (paperOf c
     text-is = e;
   }
 
-pub guess-printed : (t : List ℕ) → Printed (sheetIn t)
+guess-printed : (t : List ℕ) → Printed (sheetIn t)
 guess-printed t = made-printed (categoryIn t) (category-in t) (guessOf t) (guess-okay t) (lengthIn t) (length-in t .0) (length-in t .1) (sheetIn t) refl
 
 -- ---- the guess agrees as long as any printed sheet does
 
-pub guess-agrees : (t : List ℕ) (k : ℕ) → Agrees t k → Same k (sheetIn t) t
+guess-agrees : (t : List ℕ) (k : ℕ) → Agrees t k → Same k (sheetIn t) t
 guess-agrees t k a =
     let p = a .printed in
     keep-sheet (p .cat) (printed-known p) (p .len) (p .least) (p .most) (what p) (printed-okay p) k t (λ m x. ⊥) (λ m x. ⊥)
@@ -225,7 +221,7 @@ pub line-length : (k v : List ℕ) → length (keyLine k v) ≡ length k + (leng
 unfolding keyLine
 line-length k v = length-append k (61 ∷ (v ++ (10 ∷ []))) ∙ ap (λ n. length k + suc n) (length-append v (10 ∷ [])) ∙ omega arith
 
-pub printed-short : (t : List ℕ) → Printed t → length t ≤ 32_768
+printed-short : (t : List ℕ) → Printed t → length t ≤ 32_768
 printed-short t p =
     let a : List ℕ = keyLine (text "cat") (decimal (p .cat)) in
     let h : length (sheetOf (p .cat ∷ p .field)) ≤ longestSheet = sheet-longest (p .cat ∷ p .field) (and-in (ltb (p .cat) 256) _ (known-octet (p .cat) (printed-known p)) (p .are-octets)) in
@@ -331,7 +327,7 @@ longer : (t : List ℕ) (o : ℕ) (r : List ℕ) → t ++ (o ∷ r) ≡ t → �
 longer t o r e = let n : length t + suc (length r) ≡ length t = sym (length-append t (o ∷ r)) ∙ ap length e in absurd (omega arith)
 
 -- no printed sheet goes on as another
-pub none-goes-on : (t : List ℕ) (o : ℕ) (r : List ℕ) → Printed (t ++ (o ∷ r)) → Printed t → ⊥
+none-goes-on : (t : List ℕ) (o : ℕ) (r : List ℕ) → Printed (t ++ (o ∷ r)) → Printed t → ⊥
 none-goes-on t o r p q =
     let u : List ℕ = t ++ (o ∷ r) in
     let e : _≡_ {A = Told} (p .cat, p .len, what p) (q .cat, q .len, what q) = sym (printed-told p []) ∙ ap toldIn (append-nil u) ∙ printed-told q (o ∷ r) in
@@ -433,8 +429,22 @@ pub guess-short : (t : List ℕ) → length (writeFrame (body (paperOf (category
 unfolding writeFrame
 guess-short t = omega (arith, field-size (paperOf (categoryIn t)) (guessOf t), few-octets (categoryIn t))
 
-pub rebuilt-few : (t : List ℕ) (room : ℕ) → (placeOf (answerOf (octetsGiven (rebuildOf t room))) ≤ 32_769) × (lengthOf (answerOf (octetsGiven (rebuildOf t room))) ≤ LONGEST)
-unfolding rebuildOf givenOf placeOf lengthOf answerOf octetsGiven
+-- a category is an octet, a line's number at most one more than a text has octets, and a field no longer than the longest
+pub record Few (o : Outcome (ℕ × List ℕ)) : Type 0 where
+  pub category : categoryGiven o < 256
+  pub place : placeOf (answerOf (octetsGiven o)) ≤ 32_769
+  pub octets : lengthOf (answerOf (octetsGiven o)) ≤ LONGEST
+
+refused-few : (n k : ℕ) → k ≤ 32_769 → Few (refused n k)
+unfolding categoryGiven octetsGiven answerOf placeOf lengthOf
+refused-few n k h = record { category = omega arith; place = h; octets = omega arith }
+
+accepted-few : (cat : ℕ) (b : List ℕ) → cat < 256 → length b ≤ LONGEST → Few (accepted (cat, b))
+unfolding categoryGiven octetsGiven answerOf placeOf lengthOf
+accepted-few cat b c h = record { category = c; place = omega arith; octets = h }
+
+pub rebuilt-few : (t : List ℕ) (room : ℕ) → Few (rebuildOf t room)
+unfolding rebuildOf givenOf
 rebuilt-few t room = go (ltb 32_768 (length t)) (eqb w 0) (eqb (lengthIn t) (length b)) (leb (length b) room)
   where
     cat : ℕ
@@ -446,16 +456,9 @@ rebuilt-few t room = go (ltb 32_768 (length t)) (eqb w 0) (eqb (lengthIn t) (len
     w : ℕ
     w = firstWrong 1 (sheetIn t) t
 
-    line : w ≤ 32_769
-    line = omega (arith, wrong-most (sheetIn t) t 1, printed-short (sheetIn t) (guess-printed t))
-
-    octets : length b ≤ LONGEST
-    octets = guess-short t
-
-    go : (x y z v : Bool) → (placeOf (answerOf (octetsGiven (pick x (refused 18 0) (pick y (pick z (pick v (accepted (cat, b)) (refused 11 0)) (refused 18 2)) (refused 18 w))))) ≤ 32_769)
-        × (lengthOf (answerOf (octetsGiven (pick x (refused 18 0) (pick y (pick z (pick v (accepted (cat, b)) (refused 11 0)) (refused 18 2)) (refused 18 w))))) ≤ LONGEST)
-    go true y z v = (omega arith, omega arith)
-    go false true true true = (omega arith, octets)
-    go false true true false = (omega arith, omega arith)
-    go false true false v = (omega arith, omega arith)
-    go false false z v = (line, omega arith)
+    go : (x y z v : Bool) → Few (pick x (refused 18 0) (pick y (pick z (pick v (accepted (cat, b)) (refused 11 0)) (refused 18 2)) (refused 18 w)))
+    go true y z v = refused-few 18 0 (omega arith)
+    go false true true true = accepted-few cat b (ltb→lt cat 256 (known-octet cat (category-in t))) (guess-short t)
+    go false true true false = refused-few 11 0 (omega arith)
+    go false true false v = refused-few 18 2 (omega arith)
+    go false false z v = refused-few 18 w (omega (arith, wrong-most (sheetIn t) t 1, printed-short (sheetIn t) (guess-printed t)))

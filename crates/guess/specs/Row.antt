@@ -2,15 +2,14 @@
 use mathlib.Core.Path.{_≡_, refl, sym, ap, ap₂, _∙_, subst}
 use mathlib.Core.Bool.{Bool, true, false, _&&_}
 use mathlib.Core.List.{List, [], _∷_, _++_}
-use Prim.Native.Nat.{ℕ, zero, suc, _+_, _-_, _^_, _≤_, _<_}
+use Prim.Native.Nat.{ℕ, zero, suc, _+_, _-_, _≤_, _<_}
 use native.Mathlib.Omega.{arith}
-use borrow.Author.Tests.{eqb-true, eqb-false}
-use lib.Dec.{T, eqb, ltb, lt→ltb, eqb→eq}
-use lib.IntN.{ℤ, pos}
-use lib.ListN.{length, drop, replicate, length-append, length-replicate}
+use lib.Dec.{T, eqb}
+use lib.IntN.{pos}
+use lib.ListN.{length, drop, replicate}
 use lib.Seq.{drop-at}
 use Rattle.codec.specs.Pick.{pick}
-use Rattle.codec.specs.Radix.{cut, join, digits, ones, total}
+use Rattle.codec.specs.Radix.{join, digits, ones, total}
 use Rattle.codec.specs.Codec.{opt}
 use Rattle.codec.specs.Line.{Held}
 use Rattle.codec.specs.Item.{Item, slots, nothing, item}
@@ -19,7 +18,7 @@ use Rattle.codec.specs.Laws.Tests.{and-in, and-l, and-r}
 use Rattle.codec.specs.Laws.Radix.{cut-join, join-lt}
 use Rattle.codec.specs.Laws.Item.{only-nothing, zeros-yes}
 use Rattle.papers.specs.Names.{text, Named}
-use Rattle.scope.specs.Sheet.{itemText, rowText, itemsText}
+use Rattle.scope.specs.Sheet.{itemText, rowText}
 use Rattle.guess.specs.Fits.{whole, whole-append, whole-pick, Fits, fits-nil, fits-split, fits-join}
 use Rattle.guess.specs.Guess.{begins, itemIn, itemLeft, rowIn, namesIn, indicatorOf}
 use Rattle.guess.specs.Groups.{Begins, startsAny, starts-right}

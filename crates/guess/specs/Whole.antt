@@ -1,27 +1,25 @@
 -- The whole sheet: the guess's sheet agrees with the text as long as the sheet of any contents does, whatever its value of `len`; and the guess can always be written.
-use mathlib.Core.Path.{_≡_, refl, sym, ap, ap₂, _∙_, subst}
-use mathlib.Core.Bool.{Bool, true, false, _&&_}
+use mathlib.Core.Path.{_≡_, sym, ap, _∙_, subst}
 use mathlib.Core.List.{List, [], _∷_, _++_}
-use Prim.Native.Nat.{ℕ, zero, suc, _+_, _-_, _^_, _≤_, _<_}
+use Prim.Native.Nat.{ℕ, suc, _≤_}
 use native.Mathlib.Omega.{arith}
-use lib.Dec.{T, eqb, ltb}
-use lib.ListN.{length}
+use lib.Dec.{T}
 use Rattle.codec.specs.Radix.{total}
 use Rattle.codec.specs.Codec.{number}
 use Rattle.codec.specs.Line.{Held}
-use Rattle.codec.specs.Field.{row, flags, noSpare, indicator, Contents, body}
+use Rattle.codec.specs.Field.{flags, noSpare, indicator, Contents, body}
 use Rattle.codec.specs.Laws.Tests.{and-in, and-l, and-r, holds}
 use Rattle.codec.specs.Laws.Codec.{number-okay}
 use Rattle.codec.specs.Laws.Field.{indicator-lt, row-okay}
-use Rattle.papers.specs.Names.{text, Named, namesOf}
+use Rattle.papers.specs.Names.{text, namesOf}
 use Rattle.papers.specs.Papers.{known, paperOf}
 use Rattle.scope.specs.Sheet.{keyLine, decimal, itemsText, rowText}
-use Rattle.guess.specs.Fits.{behindOctet, untilFeed, hasFeed, behindFeed, behindFeeds, feeds, without, whole, whole-append, Fits, by-lines, fits-open, fits-split, fits-join, fits-then, fits-self, fits-end}
+use Rattle.guess.specs.Fits.{behindOctet, untilFeed, behindFeed, behindFeeds, feeds, without, whole, whole-append, Fits, by-lines, fits-open, fits-split, fits-join, fits-then, fits-self, fits-end}
 use Rattle.guess.specs.Guess.{valueIn, begins, rowIn, indicatorOf, indicatorIn, categoryOf, categoryIn, boundedIn, lengthIn, contentsIn, guessOf, sheetWith}
-use Rattle.guess.specs.Numbers.{line-whole, line-has, line-until, line-feeds, value-is, decimal-clean, bounded-in, key-begins}
+use Rattle.guess.specs.Numbers.{line-whole, line-has, line-until, line-feeds, decimal-clean, bounded-in, key-begins}
 use Rattle.guess.specs.Groups.{Begins, startsAny}
 use Rattle.guess.specs.Items.{keep-bounded}
-use Rattle.guess.specs.Row.{rowRight, row-whole, keep-row, row-made, indicator-in}
+use Rattle.guess.specs.Row.{row-whole, keep-row, row-made, indicator-in}
 use Rattle.guess.specs.Papers.{last, papers-right, as-many, items-told, category-told, category-known}
 
 -- ---- a line whose words tell what it was made of
@@ -130,7 +128,7 @@ pub guess-okay : (t : List ℕ) → T ((body (paperOf (categoryIn t))) .okay (gu
 unfolding guessOf
 guess-okay t = contents-made (categoryIn t) (category-in t) (behindFeeds 2 t)
 
-pub sheet-whole : (cat : ℕ) → T (known cat) → (len : ℕ) (r : Contents) → T (whole (sheetWith cat len r))
+sheet-whole : (cat : ℕ) → T (known cat) → (len : ℕ) (r : Contents) → T (whole (sheetWith cat len r))
 unfolding sheetWith
 sheet-whole cat k len r =
     whole-append (keyLine (text "cat") (decimal cat)) _ (line-whole (text "cat") (decimal cat))

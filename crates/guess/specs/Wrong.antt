@@ -1,15 +1,14 @@
 -- The first wrong line: how many lines two texts share, and what the comparison of their octets answers.
 use mathlib.Core.Path.{_≡_, refl, sym, ap, ap₂, _∙_, subst}
-use mathlib.Core.Bool.{Bool, true, false, not, _&&_}
-use mathlib.Core.List.{List, [], _∷_, _++_, append-assoc, append-nil}
-use Prim.Native.Nat.{ℕ, zero, suc, _+_, _-_, _≤_, _<_}
+use mathlib.Core.Bool.{Bool, true, false, _&&_}
+use mathlib.Core.List.{List, [], _∷_, _++_}
+use Prim.Native.Nat.{ℕ, zero, suc, _+_, _≤_}
 use native.Mathlib.Omega.{arith}
-use borrow.Author.Tests.{eq-eqb, eqb-true, eqb-false, ne-eqb, not-true, le-leb, lt-leb}
+use borrow.Author.Tests.{eq-eqb, eqb-true, le-leb, lt-leb}
 use lib.Dec.{T, eqb, leb, eqb→eq}
-use lib.ListN.{length}
 use Rattle.codec.specs.Pick.{pick}
-use Rattle.codec.specs.Laws.Tests.{and-in, and-l, and-r, holds}
-use Rattle.guess.specs.Fits.{beforeOctet, behindOctet, untilFeed, hasFeed, behindFeed, feeds, feeds-append, has-append, until-append, behind-append, Fits, fits-open, fits-close}
+use Rattle.codec.specs.Laws.Tests.{and-in, and-l, and-r}
+use Rattle.guess.specs.Fits.{beforeOctet, behindOctet, untilFeed, hasFeed, behindFeed, feeds, has-append, until-append, behind-append, Fits, fits-close}
 use Rattle.guess.specs.Guess.{firstWrong}
 use Rattle.scope.specs.Rebuilding.{areLines, Shared}
 
@@ -35,23 +34,6 @@ through-shared (x ∷ s) (y ∷ t) (suc k) h =
     go : (b : Bool) → eqb x 10 ≡ b → T (pick b (through k s t) (through (suc k) s t)) → (T (through k s t) → Shared k s t) → (T (through (suc k) s t) → Shared (suc k) s t) → Shared (suc k) (x ∷ s) (y ∷ t)
     go true f u a b = let r = a u in record { front = x ∷ r .front; lines-are = rw f (r .lines-are); rest = r .rest; behind = r .behind; one-is = ap (x ∷_) (r .one-is); other-is = ap₂ _∷_ (sym e) (r .other-is) }
     go false f u a b = let r = b u in record { front = x ∷ r .front; lines-are = rw f (r .lines-are); rest = r .rest; behind = r .behind; one-is = ap (x ∷_) (r .one-is); other-is = ap₂ _∷_ (sym e) (r .other-is) }
-
-front-through : (p a b : List ℕ) (k : ℕ) → T (areLines k p) → T (through k (p ++ a) (p ++ b))
-unfolding through areLines
-front-through [] a b zero h = tt
-front-through [] a b (suc k) h = absurd h
-front-through (x ∷ p) a b zero h = tt
-front-through (x ∷ p) a b (suc k) h =
-    and-in (eqb x x) _ (subst T (sym (eq-eqb x x refl)) tt) (go (eqb x 10) h (front-through p a b k) (front-through p a b (suc k)))
-  where
-    go : (c : Bool) → T (pick c (areLines k p) (areLines (suc k) p)) → (T (areLines k p) → T (through k (p ++ a) (p ++ b))) → (T (areLines (suc k) p) → T (through (suc k) (p ++ a) (p ++ b)))
-        → T (pick c (through k (p ++ a) (p ++ b)) (through (suc k) (p ++ a) (p ++ b)))
-    go true h f g = f h
-    go false h f g = g h
-
-pub shared-through : (k : ℕ) (s t : List ℕ) → Shared k s t → T (through k s t)
-shared-through k s t h =
-    subst (λ x. T (through k x t)) (sym (h .one-is)) (subst (λ y. T (through k (h .front ++ h .rest) y)) (sym (h .other-is)) (front-through (h .front) (h .rest) (h .behind) k (h .lines-are)))
 
 -- ---- the same, line by line
 
@@ -140,7 +122,7 @@ wrong-self [] j = refl
 wrong-self (x ∷ s) j = rw (eq-eqb x x refl) (wrong-self s _)
 
 -- a wrong line is none before the first, and as many lines are shared as come before it
-pub wrong-from : (s t : List ℕ) (j : ℕ) → (firstWrong j s t ≡ 0 → ⊥) → j ≤ firstWrong j s t
+wrong-from : (s t : List ℕ) (j : ℕ) → (firstWrong j s t ≡ 0 → ⊥) → j ≤ firstWrong j s t
 unfolding firstWrong
 wrong-from [] [] j n = absurd (n refl)
 wrong-from [] (y ∷ t) j n = omega arith

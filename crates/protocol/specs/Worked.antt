@@ -23,6 +23,7 @@ worked =
     ∷ record { line = "remove 48 062806010000 f8 3 300"; says = Asks 5 }
     ∷ record { line = "replace 48 062806010000 30 4 8007 300"; says = Asks 6 }
     ∷ record { line = "copy 48 062806010000 20 300"; says = Asks 7 }
+    ∷ record { line = "rebuild 656E643D6F6B0A 300"; says = Asks 8 }
     -- another name, a word less, a word more, an empty word, digits that are none, a number past its limit, a list that is decimal
     ∷ record { line = ""; says = Wrong 1 }
     ∷ record { line = " read 48 0200"; says = Wrong 1 }
@@ -38,6 +39,7 @@ worked =
     ∷ record { line = "remove 48 0200 255 3 300"; says = Wrong 4 }
     ∷ record { line = "remove 48 0200 F8 3 301"; says = Wrong 6 }
     ∷ record { line = "write 300 48 0 1 0 x"; says = Wrong 7 }
+    ∷ record { line = "rebuild end=ok 300"; says = Wrong 2 }
     ∷ []
 
 pub worked-judged : map (λ (x : Worked). parseOf (text (x .line)) .judged) worked ≡ map (λ (x : Worked). x .says) worked

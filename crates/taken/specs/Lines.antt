@@ -1,12 +1,12 @@
 -- The numbers of a line of the table, and of so many lines from one on, as they are taken from a text: what is not there is taken from no text, which gives zeros.
 use mathlib.Core.Bool.{Bool, true, _&&_}
 use mathlib.Core.List.{List, [], _∷_, _++_}
-use Prim.Native.Nat.{ℕ, zero, suc, _+_, _-_, _*_}
+use Prim.Native.Nat.{ℕ, zero, suc, _+_, _-_}
 use lib.Dec.{ltb, leb}
 use lib.IntN.{ℤ}
 use Rattle.codec.specs.Pick.{pick}
 use Rattle.codec.specs.Line.{Piece, spare, num}
-use Rattle.lengths.specs.Lines.{lineAt, countAt}
+use Rattle.lengths.specs.Lines.{lineAt}
 use Rattle.walk.specs.Ends.{endsRight}
 use Rattle.guess.specs.Fits.{behindFeeds}
 use Rattle.guess.specs.Guess.{pieceIn, begins, bit}

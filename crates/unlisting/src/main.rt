@@ -2,10 +2,11 @@
 // output. Of any other text it writes nothing there, and on standard error the refusal: `refused=18` and `line=`, the line at which it is no sheet. A read or a
 // write that fails ends it, with a line on standard error.
 // Promises: what it hands to be written is the category and the field of the text that it was handed, to the octet, or the refusal; what is read and written
-// nothing can promise. Stands on rebuild alone.
+// nothing can promise. Stands on rebuild and, for the refusal, on text.
 ghost use mathlib.Core.Path.{_≡_};
 ghost use lib.ListN.{length};
-ghost use Rattle.unlisting.specs.Unlists.{ROOM, Unlists};
+ghost use Rattle.text.specs.Typing.{Types};
+ghost use Rattle.unlisting.specs.Unlists.{ROOM, Unlists, refusalLines};
 use inputs::Input;
 use layout::Answer;
 use layout::LONGEST;
@@ -25,7 +26,9 @@ fn main() {
     let mut output = [0u8; ROOM];
     let answer = unlisted(&input[..n], &mut output);
     let Answer::Accepted(len) = answer else {
-        refuse(answer);
+        let mut lines = [0u8; 4096];
+        let last = refusal(answer, &mut lines);
+        io::write_all(2, &lines[..last]);
         return;
     };
     let end = len + 1;
@@ -44,12 +47,15 @@ fn unlisted(text: &[u8], output: &mut [u8]) -> Answer
     given.answer
 }
 
-fn refuse(answer: Answer) {
-    let Answer::Refused(no, line) = answer else {
-        return;
-    };
-    let mut buf = [0u8; 4096];
-    let next = text::pair(b"refused", no as u64, 0, &mut buf);
-    let end = text::pair(b"line", line as u64, next, &mut buf);
-    io::write_all(2, &buf[..end]);
+// The two lines of a refusal into the front of an array; the place behind them.
+fn refusal(answer: Answer, lines: &mut [u8; 4096]) -> usize
+    ensures { λ r. ⌜ Types (refusalLines answer) (now (lines .entry)) 0 (now (lines .exit)) r ⌝ }
+{
+    match answer {
+        Answer::Accepted(_) => 0,
+        Answer::Refused(no, line) => {
+            let next = text::pair(b"refused", no as u64, 0, &mut *lines);
+            text::pair(b"line", line as u64, next, &mut *lines)
+        }
+    }
 }

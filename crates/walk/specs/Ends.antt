@@ -2,7 +2,7 @@
 use mathlib.Core.Path.{_≡_, refl, sym, ap, _∙_, subst}
 use mathlib.Core.Bool.{Bool, true, false, _&&_}
 use mathlib.Core.List.{List}
-use Prim.Native.Nat.{ℕ, zero, suc, _+_, _-_, _*_, _^_, _/_, _≤_, _<_, zero-le}
+use Prim.Native.Nat.{ℕ, zero, suc, _+_, _-_, _*_, _^_, _/_, _≤_, zero-le}
 use native.Mathlib.Nat.{pow-suc}
 use native.Mathlib.Omega.{arith}
 use lib.Dec.{T, ltb, leb, ltb→lt, lt→ltb, leb→le, le→leb}
@@ -64,7 +64,7 @@ in-fits (limited lo hi) w e z b = and-in (inSigned (2 ^ w) z) _ (go lo hi z (and
     go (pos m) hi (negsuc n) a c x y = absurd x
     go (negsuc m) hi (negsuc n) a c x y = lt→ltb (suc (n + n)) (2 ^ w) (omega (arith, ltb→lt (suc (m + m)) (2 ^ w) a, leb→le n m x))
 
-pub fits-between : (k : Kind) (w : ℕ) → T (endsRight k w) → (z : ℤ) → fitsPiece k w z ≡ between (lowest k w) (highest k w) z
+fits-between : (k : Kind) (w : ℕ) → T (endsRight k w) → (z : ℤ) → fitsPiece k w z ≡ between (lowest k w) (highest k w) z
 fits-between k w e z = same-test (fitsPiece k w z) (between (lowest k w) (highest k w) z) (fits-in k w z) (in-fits k w e z)
 
 -- the number that code takes, lo and hi being looked up

@@ -213,7 +213,7 @@ module _ (word : ℕ → List ℕ) where
 
   rebuild-answer-most : length (rebuildAnswer word) ≤ 2_000
   unfolding rebuildAnswer
-  rebuild-answer-most = rebuilt-most (rebuildOf (octetsIn (word 1)) (valueIn 300 (word 2))) (rebuilt-few (octetsIn (word 1)) (valueIn 300 (word 2)) .1)
+  rebuild-answer-most = rebuilt-most (rebuildOf (octetsIn (word 1)) (valueIn 300 (word 2))) (rebuilt-few (octetsIn (word 1)) (valueIn 300 (word 2)) .octets)
 
   write-answer-most : (from : ℕ → List (List ℕ)) → length (writeAnswer word from) ≤ 2_000
   unfolding writeAnswer

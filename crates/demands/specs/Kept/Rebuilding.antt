@@ -3,7 +3,7 @@ use mathlib.Core.Path.{_≡_, refl, sym, ap, _∙_, subst}
 use mathlib.Core.Logic.{_≢_}
 use mathlib.Core.Bool.{Bool, true, false}
 use mathlib.Core.List.{List, [], _∷_, _++_}
-use Prim.Native.Nat.{ℕ, suc, _+_, _≤_, _<_}
+use Prim.Native.Nat.{ℕ, suc, _+_, _≤_}
 use native.Mathlib.Omega.{arith}
 use borrow.Author.Tests.{le-leb, lt-leb, eqb-true}
 use lib.Dec.{T, eqb, leb}
@@ -21,14 +21,13 @@ use Rattle.layout.specs.Laws.Answer.{Refused≢Accepted}
 use Rattle.scope.specs.Outputs.{answerOf, after}
 use Rattle.scope.specs.Sheet.{sheetOf}
 use Rattle.scope.specs.Rebuilding.{areLines, categoryGiven, octetsGiven, Right, Refusal, long, line-wrong, length-wrong, no-room}
-use Rattle.scope.specs.Reading.{readOf}
 use Rattle.guess.specs.Fits.{feeds, feeds-append}
 use Rattle.guess.specs.Guess.{rebuildOf}
 use Rattle.guess.specs.Wrong.{lines-feeds}
 use Rattle.guess.specs.Rebuilt as rebuilt
 use Rattle.demands.specs.Terms.{IsField, Fault, handedOut}
 use Rattle.demands.specs.Leftovers.{Nowhere}
-use Rattle.demands.specs.Rebuilding.{refusedAt, Printed, Agrees, IsSheet, FirstWrong, Kind, too-long, a-sheet, but-length, wrong-line, Rebuilding}
+use Rattle.demands.specs.Rebuilding.{refusedAt, Printed, Agrees, IsSheet, Kind, too-long, a-sheet, but-length, wrong-line, Rebuilding}
 use Rattle.demands.specs.Defined.{handed, program}
 use Rattle.demands.specs.Kept.Fields.{is-field-accepted, fault-refused}
 
@@ -87,15 +86,17 @@ last-in a o r before e =
     let n : length a + suc (length r) ≡ length before + 1 = sym (length-append a (o ∷ r)) ∙ ap length e ∙ length-append before (10 ∷ []) in
     sym (drop-at a (o ∷ r) (length a) refl) ∙ ap (drop (length a)) e ∙ drop-append-le (length a) before (10 ∷ []) (omega arith)
 
--- k whole lines and no more, which agree
-stopping : (k : ℕ) (t out : List ℕ) → feeds t ≡ k → Agrees program t k → (Printed program t → ⊥) → length t ≤ 32_768 → program .rebuild t out ≡ refusedAt 18 (suc k) out
-stopping k t out e a np r =
-    refusal-given t out (rebuilt.stops t (length out) r np (subst (Agrees program t) (sym e) a) ∙ ap (λ n. refused 18 (suc n)) e)
-
 no-last : (lines : List ℕ) (o : ℕ) (rest : List ℕ) → Nowhere (text "\n") (o ∷ rest) → Printed program (lines ++ (o ∷ rest)) → ⊥
 no-last lines o rest n p =
     let e = rebuilt.printed-ends (lines ++ (o ∷ rest)) p in
     n (drop (length lines) (e .0)) [] (last-in lines o rest (e .0) (e .1))
+
+unfed : (k : ℕ) (lines : List ℕ) (o : ℕ) (rest out : List ℕ) → T (areLines k lines) → Nowhere (text "\n") (o ∷ rest) → Agrees program (lines ++ (o ∷ rest)) k → length (lines ++ (o ∷ rest)) ≤ 32_768
+    → program .rebuild (lines ++ (o ∷ rest)) out ≡ refusedAt 18 (suc k) out
+unfed k lines o rest out h n a r =
+    let t : List ℕ = lines ++ (o ∷ rest) in
+    let e : feeds t ≡ k = lines-feeds-in k lines (o ∷ rest) h n in
+    refusal-given t out (rebuilt.stops t (length out) r (no-last lines o rest n) (subst (Agrees program t) (sym e) a) ∙ ap (λ j. refused 18 (suc j)) e)
 
 -- ---- every text
 
@@ -126,7 +127,7 @@ rebuilding = record {
   line = λ t out h np k w. refusal-given t out (rebuilt.wrong-line t (length out) h np k (w .before) (w .here));
   one-line = λ t np j k v w. rebuilt.one-line t np j k (v .before) (v .here) (w .before) (w .here);
   every = kind;
-  no-feed = λ k lines o rest out h n a r. stopping k (lines ++ (o ∷ rest)) out (lines-feeds-in k lines (o ∷ rest) h n) a (no-last lines o rest n) r;
-  stops = λ k lines out h. stopping k lines out (lines-feeds lines k h);
+  no-feed = unfed;
+  stops = λ k lines rest o missing out h n p. refusal-given (lines ++ rest) out (rebuilt.cut-short (lines ++ rest) o missing (length out) p ∙ ap (λ j. refused 18 (suc j)) (lines-feeds-in k lines rest h n));
   goes-on = λ k lines o more out h p r. refusal-given (lines ++ (o ∷ more)) out (rebuilt.goes-on lines o more (length out) r p ∙ ap (λ n. refused 18 (suc n)) (lines-feeds lines k h));
 }

@@ -15,7 +15,7 @@ beside-word-requires c κs =
     let d = c .before .before in
     let a = d .before .before .before .before .args in
     let f = rebuilt-few (now (a .text)) (length (now (a .out))) in
-    subst FitAnswer (sym (d .rebuild .ensures .leaves .answer)) (omega (arith, f .0), omega (arith, f .1))
+    subst FitAnswer (sym (d .rebuild .ensures .leaves .answer)) (omega (arith, f .place), omega (arith, f .octets))
 
 returns : tie.Need-returns
 unfolding rebuiltWord

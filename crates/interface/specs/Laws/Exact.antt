@@ -26,7 +26,10 @@ use Rattle.scope.specs.Writing.{writable, written, writeOf}
 use Rattle.scope.specs.Outputs.{withRoom, answerOf}
 use Rattle.scope.specs.Views.{viewOf, chooseOf}
 use Rattle.scope.specs.Desk.{editOf}
-use Rattle.interface.specs.Packed.{answerWord, sideWord, viewWord, choiceWord}
+use Rattle.scope.specs.Rebuilding.{categoryGiven, octetsGiven}
+use Rattle.guess.specs.Guess.{rebuildOf}
+use Rattle.guess.specs.Rebuilt.{rebuilt-few}
+use Rattle.interface.specs.Packed.{besideWord, answerWord, sideWord, viewWord, choiceWord, rebuiltWord}
 use Rattle.interface.specs.Arrays.{PLACES, arrayOf, fillAnswer, isOctet, areOctets, octetOf, ofArray, writeArray}
 use Rattle.interface.specs.Laws.Packed.{Tells, word-tells}
 use Rattle.interface.specs.Laws.Fits.{FitAnswer, read-fits, fill-fits, write-fits, view-fits, choose-fits, edit-fits}
@@ -169,3 +172,12 @@ unfolding choiceWord sideWord
 choose-tells cat b c ob oc item =
     let x = chooseOf cat b c item in
     word-tells (viewNumber (x .view)) (whichNumber (x .which)) (viewPlace (x .view)) (viewLength (x .view)) (which-small (x .which)) (choose-fits cat b c ob oc item)
+
+pub rebuild-tells : (t : List ℕ) (room : ℕ)
+    → (let o = rebuildOf t room in let a = answerOf (octetsGiven o) in Tells (rebuiltWord o) (numberOf a) (categoryGiven o) (placeOf a) (lengthOf a))
+unfolding rebuiltWord besideWord
+rebuild-tells t room =
+    let o = rebuildOf t room in
+    let a = answerOf (octetsGiven o) in
+    let f = rebuilt-few t room in
+    word-tells (numberOf a) (categoryGiven o) (placeOf a) (lengthOf a) (omega (arith, f .category)) (omega (arith, f .place), omega (arith, f .octets))

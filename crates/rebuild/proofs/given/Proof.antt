@@ -1,5 +1,5 @@
 -- `rebuild::given` meets its contract. Assumes nothing.
-use mathlib.Core.Path.{refl, sym, ap, _∙_}
+use mathlib.Core.Path.{sym, ap, _∙_}
 use borrow.Author.Needs.{needs}
 use Rattle.rebuild.specs.Rebuilds.{givenBy}
 use Rattle.rebuild.proofs.given.Statement.{statement}

@@ -1,5 +1,5 @@
 -- `rebuild::octets_in` meets its contract. Assumes nothing.
-use mathlib.Core.Path.{refl, sym, ap, _∙_}
+use mathlib.Core.Path.{sym, ap}
 use borrow.Author.Needs.{needs}
 use Rattle.layout.specs.Answer.{lengthOf}
 use Rattle.rebuild.proofs.octets_in.Statement.{statement}

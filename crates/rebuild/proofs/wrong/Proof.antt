@@ -1,12 +1,12 @@
 -- `rebuild::wrong` meets its contract: what is compared is the sheet with its second line exchanged. Assumes nothing.
-use mathlib.Core.Path.{_≡_, sym, ap, _∙_}
-use mathlib.Core.List.{List, _∷_}
+use mathlib.Core.Path.{ap, _∙_}
+use mathlib.Core.List.{_∷_}
 use Prim.Native.Nat.{ℕ, _≤_, _<_}
 use native.Mathlib.Omega.{arith}
 use borrow.Author.Needs.{needs}
 use denote.Ref.{now}
-use lib.Dec.{T, lt→ltb, ltb}
-use lib.ListN.{length, take, length-replicate, length-take}
+use lib.Dec.{lt→ltb, ltb}
+use lib.ListN.{length, length-replicate, length-take}
 use mir.Syntax.{w8}
 use mir.Val.{Fits}
 use Rattle.codec.specs.Codec.{Octets}
@@ -14,7 +14,6 @@ use Rattle.codec.specs.Laws.Tests.{and-in}
 use Rattle.codec.specs.Laws.Codec.{octets-all}
 use Rattle.scope.specs.Sheet.{sheetOf}
 use Rattle.sheet.specs.Laws.Whole.{Standing, sheet-stands}
-use Rattle.text.specs.Typing.{Types}
 use Rattle.text.specs.Laws.Typing.{types-behind, types-within}
 use Rattle.guess.specs.Fits.{behindFeeds}
 use Rattle.rebuild.specs.Laws.Rebuilds.{wrong-is}

@@ -11,7 +11,7 @@ use lib.Seq.{take-length, take-append-seam}
 use Rattle.codec.specs.Pick.{pick}
 use Rattle.codec.specs.Codec.{Octets}
 use Rattle.codec.specs.Field.{Contents, body, flags}
-use Rattle.codec.specs.Frame.{Outcome, accepted, refused, writeFrame}
+use Rattle.codec.specs.Frame.{accepted, refused, writeFrame}
 use Rattle.codec.specs.Meaning.{lenOf}
 use Rattle.codec.specs.Laws.Tests.{holds}
 use Rattle.papers.specs.Names.{text, namesOf}
@@ -19,7 +19,7 @@ use Rattle.papers.specs.Papers.{known, paperOf, LONGEST}
 use Rattle.layout.specs.declared.Record.{Record}
 use Rattle.layout.specs.declared.Reading.{Reading}
 use Rattle.layout.specs.declared.Answer.{Answer}
-use Rattle.layout.specs.declared.Answer.the-variants.{Accepted, Refused}
+use Rattle.layout.specs.declared.Answer.the-variants.{Refused}
 use Rattle.layout.specs.Answer.{lengthOf}
 use Rattle.layout.specs.Record.{flatten}
 use Rattle.scope.specs.Reading.{readOf}
@@ -31,7 +31,6 @@ use Rattle.scope.specs.Laws.Reading.{read-then-write, kept-made, afresh-octets}
 use Rattle.text.specs.Typing.{Types}
 use Rattle.text.specs.Laws.Typing.{types-as, types-behind, typed-front}
 use Rattle.text.specs.Laws.Decimals.{decimal-most}
-use Rattle.longest.specs.Longest.{longestSheet}
 use Rattle.longest.specs.Laws.Longest.{sheet-longest}
 use Rattle.guess.specs.Fits.{without, behindFeeds}
 use Rattle.guess.specs.Guess.{categoryIn, lengthIn, guessOf, sheetWith, firstWrong, givenOf, rebuildOf}

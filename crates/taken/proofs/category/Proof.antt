@@ -1,8 +1,6 @@
 -- `taken::category` meets its contract. Assumes nothing.
-use mathlib.Core.Path.{refl, sym, ap, _∙_}
 use borrow.Author.Needs.{needs}
 use denote.Ref.{now}
-use Rattle.papers.specs.Names.{text}
 use Rattle.taken.specs.Laws.Names.{category-021, category-007, category-048}
 use Rattle.taken.proofs.category.Statement.{statement}
 use Rattle.taken.proofs.category.Tie as tie

@@ -1,11 +1,7 @@
 -- `taken::is_there` meets its contract: the words are the heads of the lines. Assumes nothing.
-use mathlib.Core.Path.{_≡_, refl, ap, _∙_}
-use mathlib.Core.Bool.{_&&_}
-use native.Mathlib.Omega.{arith}
+use mathlib.Core.Path.{_≡_, refl}
 use borrow.Author.Needs.{needs}
-use borrow.Author.Tests.{lt-ltb}
 use denote.Ref.{now}
-use lib.Dec.{ltb}
 use Rattle.papers.specs.Cat048.{cat048}
 use Rattle.papers.specs.Cat021.{cat021}
 use Rattle.papers.specs.Cat007.{cat007}
@@ -13,7 +9,7 @@ use Rattle.papers.specs.Names.{text, names048, names021, names007}
 use Rattle.lengths.specs.Lines.{items}
 use Rattle.sheet.specs.Items.{named}
 use Rattle.walk.specs.Steps.{wordsIn}
-use Rattle.guess.specs.Guess.{begins, keyText, headOf}
+use Rattle.guess.specs.Guess.{keyText, headOf}
 use Rattle.taken.specs.Tables.{heads, headsIn, itemHeads}
 use Rattle.taken.specs.Laws.Tables.{head-word}
 use Rattle.taken.specs.Laws.Lines.{there-none, there-some}

@@ -1,5 +1,4 @@
 -- `taken::item` meets its contract: one law for each shape of an item. Assumes nothing.
-use mathlib.Core.Path.{ap, _∙_}
 use native.Mathlib.Omega.{arith}
 use borrow.Author.Needs.{needs}
 use denote.Ref.{now}

@@ -1,5 +1,4 @@
 -- `taken::line` meets its contract: a line's format tells its pieces and its slots. Assumes nothing.
-use mathlib.Core.Path.{ap, _∙_}
 use native.Mathlib.Omega.{arith}
 use borrow.Author.Needs.{needs}
 use denote.Ref.{now}

@@ -1,6 +1,6 @@
 -- `taken::piece` meets its contract: the numbers of each kind lie between two ends. Assumes nothing.
-use mathlib.Core.Path.{_≡_, refl, sym, ap, _∙_, subst}
-use Prim.Native.Nat.{ℕ, zero, suc, _-_, _^_, _/_, _≤_, _<_}
+use mathlib.Core.Path.{_≡_, refl, ap, _∙_, subst}
+use Prim.Native.Nat.{ℕ, zero, suc, _-_, _^_, _≤_, _<_}
 use native.Mathlib.Omega.{arith}
 use borrow.Author.Needs.{needs, sfits-of}
 use denote.Ref.{now}
@@ -9,7 +9,7 @@ use lib.IntN.{ℤ, pos, negsuc}
 use mir.Facts.{toZ-ofZ}
 use mir.Syntax.{w32}
 use mir.Val.{toZ, ofZ}
-use Rattle.codec.specs.Line.{Kind, plain, signed, limited}
+use Rattle.codec.specs.Line.{plain, signed, limited}
 use Rattle.lengths.specs.Lines.{kindOf}
 use Rattle.longest.specs.Laws.Ranges.{lowest, highest}
 use Rattle.walk.specs.Ends.{endsRight}

@@ -1,6 +1,6 @@
 -- `taken::top` meets its contract: as many ones as bits are wanted. Assumes nothing.
 use mathlib.Core.Path.{ap, _∙_}
-use Prim.Native.Nat.{_-_, _^_, _/_, _≤_}
+use Prim.Native.Nat.{_-_, _^_, _/_}
 use native.Mathlib.Omega.{arith}
 use borrow.Author.Needs.{needs}
 use lib.IntN.{pos}
@@ -10,8 +10,6 @@ use mir.Val.{SFits}
 use Rattle.taken.specs.Laws.Numbers.{top-is, top-most}
 use Rattle.taken.proofs.top.Statement.{statement}
 use Rattle.taken.proofs.top.Tie as tie
-use Rattle.taken.proofs.top.Reads as reads
-use Rattle.taken.proofs.top.Lts as lts
 
 sub-result : tie.Need-sub-result
 sub-result c = search needs

@@ -8,12 +8,12 @@ use native.Mathlib.Omega.{arith}
 use borrow.Author.Tests.{eq-eqb, ne-eqb, lt-ltb, le-ltb, eqb-true, eqb-false, ltb-false}
 use lib.Dec.{T, eqb, ltb, eqb→eq, ltb→lt}
 use lib.IntN.{ℤ, pos}
-use lib.ListN.{length, getD, take, drop, replicate, length-append, replicate-append-replicate, List·getD-eq-default}
+use lib.ListN.{length, take, drop, replicate, length-append, replicate-append-replicate, List·getD-eq-default}
 use lib.Seq.{sets}
 use Rattle.codec.specs.Pick.{pick}
-use Rattle.codec.specs.Line.{Line, count}
-use Rattle.codec.specs.Item.{Item, chained, single, slotsOf, slots, linesOf}
-use Rattle.codec.specs.Laws.Tests.{and-l, and-r, upTo, up-to}
+use Rattle.codec.specs.Line.{count}
+use Rattle.codec.specs.Item.{Item, single, slotsOf, slots, linesOf}
+use Rattle.codec.specs.Laws.Tests.{and-l, and-r, up-to}
 use Rattle.codec.specs.Laws.Sets.{sets-append}
 use Rattle.papers.specs.Cat048.{cat048}
 use Rattle.papers.specs.Cat021.{cat021}
@@ -21,7 +21,7 @@ use Rattle.papers.specs.Cat007.{cat007}
 use Rattle.papers.specs.Papers.{SLOTS}
 use Rattle.papers.specs.Names.{Key, Named, names048, names021, names007}
 use Rattle.scope.specs.Sheet.{partsThere}
-use Rattle.lengths.specs.Lines.{items, noLine, placedAt, placed, placedIn, placedFrom, lineAt, firstAt, countAt}
+use Rattle.lengths.specs.Lines.{items, placedAt, placed, placedIn, placedFrom, lineAt, firstAt}
 use Rattle.shapes.specs.Shapes.{NO_LINE, itemAt, linesFrom, itemOf, shapeAt, shapes, shapesFrom, shapeOf, inTurn}
 use Rattle.shapes.specs.declared.Shape.{Shape}
 use Rattle.shapes.specs.Laws.Runs.{lines-on}
@@ -31,9 +31,9 @@ use Rattle.guess.specs.Fits.{behindOctet, behindFeed}
 use Rattle.guess.specs.Guess.{linesFor, boundedIn, keyText, headOf, takenLines, leftLines, openIn, bits, countIn, behindCount, thereIn, keysIn, itemNumbers, itemIn, itemLeft}
 use Rattle.guess.specs.Numbers.{bounded-in}
 use Rattle.taken.specs.Tables.{stepAt, headAt, stepOf, groups, groupsIn, heads, headsIn, itemHeads}
-use Rattle.taken.specs.Lines.{takenAt, behindAt, thereAt, opensFrom, takenFrom, leftFrom, flagsFrom}
+use Rattle.taken.specs.Lines.{opensFrom, takenFrom, leftFrom, flagsFrom}
 use Rattle.taken.specs.Items.{partsIn, behindParts}
-use Rattle.taken.specs.Laws.Numbers.{steady, taken-length}
+use Rattle.taken.specs.Laws.Numbers.{steady}
 use Rattle.taken.specs.Laws.Lines.{steadyFrom, plainFrom, keyedFrom, Room, steady-length, lines-taken, lines-left, flags-open, parts-open, subfields-open, flags-length, lines-slots, lines-blank, flags-blank}
 
 -- ---- what the walk asks of an item, computed for each

@@ -1,5 +1,5 @@
 -- So many lines from a line of the table on: those of the guess, what they are of no text, and the ways out of the code.
-use mathlib.Core.Path.{_≡_, refl, sym, ap, ap₂, _∙_, subst}
+use mathlib.Core.Path.{_≡_, refl, sym, ap, ap₂, _∙_}
 use mathlib.Core.Bool.{Bool, true, false, _&&_}
 use mathlib.Core.List.{List, [], _∷_, _++_}
 use Prim.Native.Nat.{ℕ, zero, suc, _+_, _-_, _≤_}
@@ -11,7 +11,6 @@ use lib.IntN.{ℤ, pos}
 use lib.ListN.{length, set, replicate, length-append, replicate-append-replicate}
 use lib.Seq.{sets}
 use Rattle.codec.specs.Pick.{pick}
-use Rattle.codec.specs.Line.{Line, Piece, count}
 use Rattle.codec.specs.Item.{slotsOf}
 use Rattle.codec.specs.Printed.{sameText}
 use Rattle.codec.specs.Laws.Tests.{and-l, and-r}
@@ -23,10 +22,9 @@ use Rattle.lengths.specs.Lines.{lineAt, firstAt, countAt}
 use Rattle.lengths.specs.Laws.Lines.{narrow-line}
 use Rattle.shapes.specs.Shapes.{linesFrom, inTurn}
 use Rattle.shapes.specs.Laws.Runs.{turn-rest, turn-first, lines-on}
-use Rattle.guess.specs.Fits.{behindFeeds}
-use Rattle.guess.specs.Guess.{behindKeys, numbersIn, takenLines, leftLines, begins, headOf, openIn, bit, bits}
+use Rattle.guess.specs.Guess.{behindKeys, takenLines, leftLines, begins, headOf, openIn, bit, bits}
 use Rattle.taken.specs.Tables.{stepAt, headAt}
-use Rattle.taken.specs.Lines.{takenBy, behindBy, takenAt, behindAt, thereAt, opensFrom, takenFrom, leftFrom, flagsFrom}
+use Rattle.taken.specs.Lines.{takenAt, behindAt, thereAt, opensFrom, takenFrom, leftFrom, flagsFrom}
 use Rattle.taken.specs.Laws.Numbers.{steady, numbers-taken, behind-taken, taken-length, taken-none, behind-none}
 
 -- a group of keys for each line

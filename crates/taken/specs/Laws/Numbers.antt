@@ -1,7 +1,7 @@
 -- The numbers of one line: those of the guess, one law for each way through the code, and zeros of no text.
 use mathlib.Core.Path.{_≡_, refl, sym, ap, ap₂, _∙_, subst}
 use mathlib.Core.Bool.{Bool, true, false, _&&_}
-use mathlib.Core.List.{List, [], _∷_, _++_}
+use mathlib.Core.List.{List, [], _∷_}
 use Prim.Native.Nat.{ℕ, zero, suc, _+_, _-_, _^_, _/_, _%_, _≤_, _<_}
 use native.Mathlib.Numerals.{add-one}
 use native.Mathlib.Omega.{arith}
@@ -13,7 +13,7 @@ use Rattle.codec.specs.Pick.{pick}
 use Rattle.codec.specs.Signed.{inSigned}
 use Rattle.codec.specs.Line.{Kind, Piece, spare, num, Line, count}
 use Rattle.codec.specs.Item.{linesOf}
-use Rattle.codec.specs.Laws.Tests.{and-l, and-r, upTo, up-to}
+use Rattle.codec.specs.Laws.Tests.{and-l, and-r, up-to}
 use Rattle.papers.specs.Cat048.{cat048}
 use Rattle.papers.specs.Cat021.{cat021}
 use Rattle.papers.specs.Cat007.{cat007}
@@ -25,7 +25,7 @@ use Rattle.lengths.specs.Laws.Lines.{every-at}
 use Rattle.lengths.specs.Laws.Formats.{format-pieces, format-first, more-spare, more-num}
 use Rattle.longest.specs.Laws.Ranges.{lowest, highest}
 use Rattle.words.specs.Numbers.{signedIn, isSigned, isNumber, leads}
-use Rattle.guess.specs.Fits.{beforeOctet, behindOctet, untilFeed, behindFeed, behindFeeds}
+use Rattle.guess.specs.Fits.{beforeOctet, behindOctet, behindFeeds}
 use Rattle.guess.specs.Guess.{valueIn, fitsPiece, pieceIn, linesFor, behindKeys, numbersIn}
 use Rattle.guess.specs.Numbers.{small}
 use Rattle.walk.specs.Ends.{endsRight, twice, endedIn, piece-ended}
@@ -144,7 +144,7 @@ taken-length step (num k w ∷ ps) t = ap suc (taken-length step ps (behindFeeds
 
 -- ---- of no text
 
-pub feeds-none : (n : ℕ) → behindFeeds n [] ≡ []
+feeds-none : (n : ℕ) → behindFeeds n [] ≡ []
 unfolding behindFeeds behindOctet
 feeds-none zero = refl
 feeds-none (suc n) = feeds-none n

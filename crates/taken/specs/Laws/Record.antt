@@ -1,16 +1,14 @@
 -- The whole record: category, names and row together are the guess's.
-use mathlib.Core.Path.{_≡_, refl, sym, ap, ap₂, _∙_, subst}
-use mathlib.Core.Bool.{true}
-use mathlib.Core.List.{List, [], _∷_, _++_}
-use Prim.Native.Nat.{ℕ, _-_, _≤_}
+use mathlib.Core.Path.{_≡_, sym, ap, ap₂, _∙_, subst}
+use mathlib.Core.List.{List, [], _++_}
+use Prim.Native.Nat.{ℕ, _-_}
 use lib.Dec.{T}
 use lib.IntN.{ℤ, pos}
 use lib.ListN.{length, replicate}
 use lib.Seq.{sets}
 use Rattle.codec.specs.Radix.{total, cut, join, ones}
-use Rattle.codec.specs.Line.{Held}
-use Rattle.codec.specs.Field.{flags, row, body, Contents}
-use Rattle.codec.specs.Laws.Tests.{and-r, holds}
+use Rattle.codec.specs.Field.{flags, row, Contents}
+use Rattle.codec.specs.Laws.Tests.{holds}
 use Rattle.codec.specs.Laws.Sets.{set-front}
 use Rattle.codec.specs.Laws.Field.{row-okay}
 use Rattle.papers.specs.Names.{Named, namesOf}
@@ -19,9 +17,8 @@ use Rattle.papers.specs.Laws.Papers.{few-items, few-slots}
 use Rattle.layout.specs.declared.Record.{Record}
 use Rattle.layout.specs.Record.{allParts, allNumbers, flatten}
 use Rattle.layout.specs.Laws.Record.{length-parts, length-numbers}
-use Rattle.spots.specs.Spots.{spotAt, spotOf, itemsFrom}
+use Rattle.spots.specs.Spots.{spotOf}
 use Rattle.spots.specs.Laws.Spots.{Spots, spots-right}
-use Rattle.sheet.specs.Rows.{namesFrom}
 use Rattle.sheet.specs.Laws.Whole.{names-right}
 use Rattle.guess.specs.Fits.{behindFeed, behindFeeds}
 use Rattle.guess.specs.Guess.{valueIn, rowIn, namesIn, indicatorOf, indicatorIn, categoryIn, contentsIn, guessOf}

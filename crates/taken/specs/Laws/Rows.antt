@@ -1,10 +1,9 @@
 -- The row of items: the guess's, item by item.
-use mathlib.Core.Path.{_≡_, refl, sym, ap, ap₂, _∙_, subst}
+use mathlib.Core.Path.{_≡_, refl, sym, ap, ap₂, _∙_}
 use mathlib.Core.Bool.{Bool, true, false}
 use mathlib.Core.List.{List, [], _∷_, _++_}
-use Prim.Native.Nat.{ℕ, zero, suc, _+_, _-_, _≤_}
+use Prim.Native.Nat.{ℕ, suc, _+_, _-_, _≤_}
 use native.Mathlib.Numerals.{add-one}
-use native.Mathlib.Omega.{arith}
 use borrow.Author.Tests.{eqb-true, eqb-false}
 use lib.Dec.{T, eqb, leb→le}
 use lib.IntN.{ℤ, pos}
@@ -18,7 +17,7 @@ use Rattle.papers.specs.Papers.{SLOTS}
 use Rattle.layout.specs.Record.{allParts, allNumbers}
 use Rattle.shapes.specs.Shapes.{itemAt}
 use Rattle.spots.specs.Spots.{spotAt, itemOn, spotOk, rowOk, itemsFrom}
-use Rattle.spots.specs.Laws.Rows.{first-drop, next-drop, items-on, row-first, row-next}
+use Rattle.spots.specs.Laws.Rows.{first-drop, next-drop, items-on, row-next}
 use Rattle.sheet.specs.Items.{namedAt}
 use Rattle.sheet.specs.Rows.{namedOn, namesFrom}
 use Rattle.sheet.specs.Laws.Rows.{names-on}

@@ -2,14 +2,14 @@
 use mathlib.Core.Path.{_≡_, refl, sym, ap, _∙_, subst}
 use mathlib.Core.Bool.{Bool, true, false}
 use mathlib.Core.List.{List, [], map}
-use Prim.Native.Nat.{ℕ, _≤_, _<_}
+use Prim.Native.Nat.{ℕ, _≤_}
 use native.Mathlib.Omega.{arith}
 use borrow.Author.Tests.{ne-eqb, ltb-false}
 use lib.Dec.{T, eqb, ltb, ltb→lt, eqb→eq}
-use lib.ListN.{length, getD, List·getD-eq-default, List·getD-map}
+use lib.ListN.{getD, List·getD-eq-default, List·getD-map}
 use Rattle.codec.specs.Pick.{pick}
-use Rattle.codec.specs.Laws.Tests.{upTo, up-to}
-use Rattle.papers.specs.Names.{Key, Named, names048, names021, names007}
+use Rattle.codec.specs.Laws.Tests.{up-to}
+use Rattle.papers.specs.Names.{Named, names048, names021, names007}
 use Rattle.sheet.specs.Items.{nobody, named, namedAt}
 use Rattle.walk.specs.Steps.{wordsIn}
 use Rattle.guess.specs.Guess.{linesFor}

@@ -1,21 +1,26 @@
--- The category in front of a part that was lent: what both are then.
+-- The category in front of a part that was lent: what both are then. The lines of a refusal, one behind the other.
 use mathlib.Core.Path.{_≡_, refl, sym, ap, ap₂, _∙_, subst}
 use mathlib.Core.List.{List, [], _∷_, _++_, append-assoc}
-use Prim.Native.Nat.{ℕ, suc, _+_, _-_, _≤_, _<_}
+use Prim.Native.Nat.{ℕ, _-_, _≤_}
 use native.Mathlib.Omega.{arith}
-use lib.ListN.{length, take, drop, set, length-append, length-take, length-drop, length-set}
+use lib.ListN.{length, take, drop, set, length-append, length-take, length-drop}
 use lib.Seq.{take-append-seam}
 use Rattle.codec.specs.Frame.{Outcome, accepted, refused}
 use Rattle.papers.specs.Papers.{LONGEST}
+use Rattle.papers.specs.Names.{text}
 use Rattle.layout.specs.declared.Answer.{Answer}
+use Rattle.layout.specs.declared.Answer.the-variants.{Accepted, Refused}
 use Rattle.layout.specs.Answer.{lengthOf}
-use Rattle.scope.specs.Outputs.{answerOf, after, Leaves}
+use Rattle.scope.specs.Outputs.{answerOf, after}
 use Rattle.scope.specs.Rebuilding.{categoryGiven, octetsGiven}
+use Rattle.scope.specs.Sheet.{keyLine, decimal}
+use Rattle.text.specs.Typing.{Types}
+use Rattle.text.specs.Laws.Typing.{types-none, types-behind}
 use Rattle.guess.specs.Guess.{rebuildOf}
 use Rattle.guess.specs.Rebuilt.{rebuilt-few}
 use Rattle.rebuild.specs.declared.Rebuilt.{Rebuilt}
 use Rattle.rebuild.specs.Rebuilds.{Rebuilds}
-use Rattle.unlisting.specs.Unlists.{ROOM, Unlists}
+use Rattle.unlisting.specs.Unlists.{ROOM, Unlists, refusalLines}
 
 -- an output keeps its length
 kept-length : (o : Outcome (List ℕ)) (l : List ℕ) → lengthOf (answerOf o) ≤ length l → length (after o l) ≡ length l
@@ -41,9 +46,18 @@ unlists-is t (o ∷ rest) h {m} {r} p =
           let ec : r .cat ≡ cat = q .category ∙ ap categoryGiven g in
           let em : m ≡ b ++ drop (length b) mid = q .leaves .output ∙ ap (λ x. after (octetsGiven x) mid) g in
           ap₂ _∷_ ec (ap (λ x. take (length b) (x ++ z)) em ∙ ap (take (length b)) (append-assoc b (drop (length b) mid) z) ∙ take-append-seam b (drop (length b) mid ++ z));
-      few = subst (λ x. lengthOf x ≤ LONGEST) (sym a) (rebuilt-few t LONGEST .1);
+      few = subst (λ x. lengthOf x ≤ LONGEST) (sym a) (rebuilt-few t LONGEST .octets);
       within =
-          let few = rebuilt-few t (length mid) .1 in
+          let few = rebuilt-few t (length mid) .octets in
           let k : length m ≡ length mid = ap length (q .leaves .output) ∙ kept-length (octetsGiven (rebuildOf t (length mid))) mid (omega (arith, few, e)) in
           omega (arith, few, e, k, ap lengthOf (q .leaves .answer), length-append m z);
     }
+
+pub no-lines : {a : Answer} {n : ℕ} → a ≡ Accepted n → (l : List ℕ) → Types (refusalLines a) l 0 l 0
+unfolding refusalLines
+no-lines e l = rw e (types-none l 0)
+
+pub two-lines : {a : Answer} {n k : ℕ} → a ≡ Refused n k → {l m q : List ℕ} {next last : ℕ} → Types (keyLine (text "refused") (decimal n)) l 0 m next
+    → Types (keyLine (text "line") (decimal k)) m next q last → Types (refusalLines a) l 0 q last
+unfolding refusalLines
+two-lines e first second = rw e (types-behind first second)

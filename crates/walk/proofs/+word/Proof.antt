@@ -1,5 +1,5 @@
 -- `walk::word` meets its contract: one word at a time. Assumes nothing.
-use Prim.Native.Nat.{ℕ, _-_, _<_}
+use Prim.Native.Nat.{ℕ, _<_}
 use native.Mathlib.Omega.{arith}
 use denote.Ref.{now}
 use Rattle.walk.specs.Steps.{word-first, word-more}

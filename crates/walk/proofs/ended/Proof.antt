@@ -1,12 +1,11 @@
 -- `walk::ended` meets its contract. Assumes nothing.
-use mathlib.Core.Path.{_≡_, sym, ap, _∙_}
-use mathlib.Core.Bool.{true, false}
+use mathlib.Core.Path.{sym, ap, _∙_}
 use borrow.Author.Needs.{needs, sfits-of}
 use denote.Ref.{now}
 use mir.Syntax.{w32}
 use mir.Facts.{toZ-ofZ}
 use Rattle.words.specs.Numbers.{wholeIn}
-use Rattle.walk.specs.Ends.{between, ended-there, ended-none}
+use Rattle.walk.specs.Ends.{ended-there, ended-none}
 use Rattle.walk.proofs.ended.Statement.{statement}
 use Rattle.walk.proofs.ended.Tie as tie
 
