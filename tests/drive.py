@@ -1,12 +1,12 @@
 #!/usr/bin/env python3
-"""Drives the built programs `refdesk` and `listing` through bin/run and holds each answer against tests/refdesk.py and tests/reference.py.
+"""Drives the built programs `refdesk`, `listing` and `unlisting` through bin/run and holds each answer against tests/refdesk.py and tests/reference.py.
 
     python3 tests/drive.py [--seed 1] [--count 5000]           requests in three ways, sheets, and what must fail; one figure, exit status 1 if it is not 0
     python3 tests/drive.py --speed [--program A --program B]   requests a second of each program, by turns
 
 A program is its name, or the path of another build. Most requests are those of tests/vectors.py with words exchanged between them and octets
 damaged; some lines are damaged as texts or are no request. They go in one input, in pieces that end anywhere, and one at a time, each answer awaited.
-`listing` takes one input a run: the category and the field of every hundredth request. tests/failures.py has what must fail.
+`listing` takes one input a run: the category and the field of every hundredth request; `unlisting` takes its sheet. tests/failures.py has what must fail.
 """
 import argparse
 import os
@@ -17,18 +17,19 @@ import threading
 import time
 from fcntl import ioctl
 from itertools import islice
-from subprocess import PIPE
+from subprocess import DEVNULL, PIPE
 from termios import FIONREAD
 
 from failures import failures, file_with
 from lines import EXAMPLES, WRONG, either_case
 from reads import BAD_FIELDS
 from refdesk import FORMS, LIST, MOST, OCTETS, answer
-from reference import sheet
+from reference import rebuild, sheet
 from started import started
 from vectors import requests
 
 LISTED = 100  # one request of so many is listed
+LONGEST_FIELD = 52  # octets
 SHOWN = 5  # differences that are printed in full
 ROUNDS = 5  # of a measurement
 
@@ -160,7 +161,7 @@ def differences(way, program, rng, made, wanted):
     return count
 
 
-# ---- listing
+# ---- listing, and back
 
 def listed(line):
     """The category and the field of a request, where it has them; the line's own octets where it is no such request."""
@@ -171,15 +172,25 @@ def listed(line):
         return line
 
 
-def sheet_differences(program, made):
+def given_by(program, octets):
+    """What it writes, and its exit status."""
+    with file_with(octets) as asked, started(program, stdin=asked, stdout=PIPE, stderr=DEVNULL) as desk:
+        return desk.stdout.read(), desk.wait()
+
+
+def sheet_differences(listing, unlisting, made):
+    """The sheets, and what is rebuilt from them: the category and the field where it is accepted, nothing where it is refused."""
     count = 0
     for given in map(listed, made):
-        with file_with(given) as asked, started(program, stdin=asked, stdout=PIPE) as desk:
-            told, status = desk.stdout.read().decode(), desk.wait()
-        if told != sheet(given) or status != 0:
-            count += 1
-            print(given[:200], "is listed as", told)
-    print(f"{program}: {len(made)} sheets, {count} differences")
+        text = sheet(given).encode()
+        kind, *answer = rebuild(text, LONGEST_FIELD)
+        back = (bytes([answer[0]]) + answer[1], 0) if kind == "ok" else (b"", 1)
+        for program, octets, right in ((listing, given, (text, 0)), (unlisting, text, back)):
+            told = given_by(program, octets)
+            if told != right:
+                count += 1
+                print(f"{program}: {octets[:200]} gives {told} and should {right}")
+    print(f"{listing} and {unlisting}: {len(made)} sheets, {count} differences")
     return count
 
 
@@ -228,11 +239,12 @@ def speed(programs, rng, count):
 # ---- the command
 
 def options():
-    given = argparse.ArgumentParser(description="Drives refdesk and listing against the tests' own implementation.")
+    given = argparse.ArgumentParser(description="Drives refdesk, listing and unlisting against the tests' own implementation.")
     given.add_argument("--seed", type=int, default=1)
     given.add_argument("--count", type=int, default=5000)
     given.add_argument("--program", action="append", help="refdesk, or the path of another build of it")
     given.add_argument("--listing", default="listing", help="listing, or the path of another build of it")
+    given.add_argument("--unlisting", default="unlisting", help="unlisting, or the path of another build of it")
     given.add_argument("--speed", action="store_true")
     return given.parse_args()
 
@@ -247,8 +259,8 @@ def main():
     count = 0
     for program in programs:
         count += sum(differences(way, program, rng, made, wanted) for way in (one_input, in_pieces, one_at_a_time))
-        count += failures(program, given.listing)
-    count += sheet_differences(given.listing, made[::LISTED])
+        count += failures(program, given.listing, given.unlisting)
+    count += sheet_differences(given.listing, given.unlisting, made[::LISTED])
     print(f"drive: {count} differences")
     sys.exit(count > 0)
 

@@ -1,4 +1,4 @@
-"""What must fail: reads and writes of `refdesk` and `listing` that the system refuses. tests/drive.py runs these.
+"""What must fail: reads and writes of `refdesk`, `listing` and `unlisting` that the system refuses. tests/drive.py runs these.
 
 A program whose read or write fails ends by itself, with one line on standard error and, through bin/run, an exit status that is not 0. What it
 told until then is the front of what it should have told, so that no answer can be taken for another request's.
@@ -12,6 +12,7 @@ from subprocess import PIPE
 from termios import FIONREAD
 
 from refdesk import answers
+from reference import sheet
 from sheets import WORKED
 from started import started
 
@@ -141,13 +142,15 @@ READS = (
 )
 
 
-def failures(refdesk, listing):
+def failures(refdesk, listing, unlisting):
     """How many of the cases go wrong."""
+    text = sheet(WORKED).encode()
     wrong = pipe_gets_full(refdesk)
-    for program, octets, ends in ((refdesk, REQUEST, False), (listing, WORKED, True)):
+    for program, octets, ends in ((refdesk, REQUEST, False), (listing, WORKED, True), (unlisting, text, True)):
         wrong += sum(write_fails(why, program, pipe(octets, ends), stdout()) for why, stdout in WRITES)
         wrong += sum(read_fails(why, program, stdin()) for why, stdin in READS)
     ten = 10 * REQUEST
     wrong += read_fails("a read that fails behind ten requests and a part", refdesk, pipe(ten + CUT, ends=False, waits=False), answers(ten).encode())
-    wrong += read_fails("a read that fails behind a part of the input", listing, pipe(WORKED[:4], ends=False, waits=False))
+    for program, octets in ((listing, WORKED[:4]), (unlisting, text)):
+        wrong += read_fails("a read that fails behind a part of the input", program, pipe(octets, ends=False, waits=False))
     return wrong

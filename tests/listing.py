@@ -3,22 +3,17 @@
 
     python3 tests/listing.py
 
-`rt ci` gives the program 01's worked octets alone. A piece is written a moment after the one before it, so that most
-reads of the program get less than they ask for. Behind 256 octets the pipe stays open: the program must not wait for its end.
+`rt ci` gives the program 01's worked octets alone.
 """
-import os
 import sys
-import threading
-import time
-from subprocess import PIPE
 
 from fields import field_of, full_field, ones
 from papers import PAPERS
+from pieces import in_pieces, told
 from reference import sheet
 from sheets import WORKED, widest
-from started import started
 
-MOMENT = 0.02  # seconds between two pieces
+MOST = 256  # octets that the program looks at
 LENGTHS = (0, 1, 2, 3, 7, 8, 38, 52, 53, 254, 255, 256, 257, 300)
 
 
@@ -47,33 +42,6 @@ def same_front():
             yield from ((given, given + behind) for behind in (b"\0", b"\xFF" * 44, WORKED, given))
 
 
-def in_pieces(octets, size):
-    return [octets[k:k + size] for k in range(0, len(octets), size)]
-
-
-def feed(program, pieces):
-    try:
-        for k, piece in enumerate(pieces):
-            time.sleep(MOMENT if k else 0)
-            os.write(program.stdin.fileno(), piece)
-    except BrokenPipeError:
-        pass  # the program has its 256 octets and is gone
-    if sum(map(len, pieces)) >= 256:
-        program.wait()
-    program.stdin.close()
-
-
-def listed(pieces):
-    """What the program writes where its standard input is a pipe that gets these pieces one after the other."""
-    with started("listing", stdin=PIPE, stdout=PIPE) as program:
-        feeder = threading.Thread(target=feed, args=(program, pieces))
-        feeder.start()
-        told = program.stdout.read().decode()
-        feeder.join()
-        assert program.wait() == 0, pieces
-    return told
-
-
 def runs():
     """(why, pieces) of each run of the program."""
     for why, given in inputs():
@@ -89,11 +57,11 @@ def runs():
 def main():
     count = differences = 0
     for why, pieces in [*runs(), *(("beyond 256", [given]) for pair in same_front() for given in pair)]:
-        told, wanted = listed(pieces), sheet(b"".join(pieces))
+        given, wanted = told("listing", pieces, MOST), (sheet(b"".join(pieces)).encode(), b"", 0)
         count += 1
-        if told != wanted:
+        if given != wanted:
             differences += 1
-            print(why, b"".join(pieces).hex(" "), "gives", repr(told), "and should", repr(wanted))
+            print(why, b"".join(pieces).hex(" "), "gives", given, "and should", wanted)
     assert all(sheet(front) == sheet(longer) for front, longer in same_front())
     print(f"{count} runs, {differences} differences")
     sys.exit(differences > 0)

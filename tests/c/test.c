@@ -1,6 +1,6 @@
 /*
- * Calls each function of include/refdesk.h on accepted and refused inputs: the octets of 01's table, its edits, copies by
- * hand, and the order of the checks. What a call is lent lies between guards; after it every octet of both is compared.
+ * Calls each function of include/refdesk.h on accepted and refused inputs: the octets of 01's table, its edits, copies and
+ * sheets by hand, and the order of the checks. What a call is lent lies between guards; after it every octet of both is compared.
  */
 #include "refdesk.h"
 
@@ -446,34 +446,38 @@ static void test_copy(void)
     }
 }
 
-/* ---- ref_sheet: the texts are 01's worked sheet, and others by hand from its section 'The sheet' */
+/*
+ * ---- ref_sheet: the texts are 01's worked sheet, and others by hand from its section 'The sheet'; and what ref_rebuild answers
+ * to each: the category and LEN of the field, which comes back, or the line at which the sheet of a refusal is no sheet
+ */
 
 static const struct sheet_row {
     const char *input;
     const char *text;
+    uint64_t rebuilt;
 } sheet_rows[] = {
-    {"30 06 28 06 01 00 00", "cat=48\nlen=6\nitems=M4E,ERR\nM4E=3\nERR=65536\nend=ok\n"},
-    {"30 02 00", "cat=48\nlen=2\nitems=\nend=ok\n"},
-    {"30 04 80 04 FF", "cat=48\nlen=4\nitems=MD5\nMD5.TOS=-1\nend=ok\n"},
-    {"30 05 80 10 3F D8", "cat=48\nlen=5\nitems=MD5\nMD5.GA.RES=0\nMD5.GA.GA=-40\nend=ok\n"},
+    {"30 06 28 06 01 00 00", "cat=48\nlen=6\nitems=M4E,ERR\nM4E=3\nERR=65536\nend=ok\n", WORD(0, 48, 0, 6)},
+    {"30 02 00", "cat=48\nlen=2\nitems=\nend=ok\n", WORD(0, 48, 0, 2)},
+    {"30 04 80 04 FF", "cat=48\nlen=4\nitems=MD5\nMD5.TOS=-1\nend=ok\n", WORD(0, 48, 0, 4)},
+    {"30 05 80 10 3F D8", "cat=48\nlen=5\nitems=MD5\nMD5.GA.RES=0\nMD5.GA.GA=-40\nend=ok\n", WORD(0, 48, 0, 5)},
     {"30 09 80 20 40 00 00 80 00 00",
      "cat=48\nlen=9\nitems=MD5\nMD5.POS.LAT=4194304\nMD5.POS.LAT.udeg=90000000\nMD5.POS.LAT.left=0\n"
-     "MD5.POS.LON=-8388608\nMD5.POS.LON.udeg=-180000000\nMD5.POS.LON.left=0\nend=ok\n"},
+     "MD5.POS.LON=-8388608\nMD5.POS.LON.udeg=-180000000\nMD5.POS.LON.left=0\nend=ok\n", WORD(0, 48, 0, 9)},
     {"30 09 80 20 00 40 00 FF C0 00",
      "cat=48\nlen=9\nitems=MD5\nMD5.POS.LAT=16384\nMD5.POS.LAT.udeg=351563\nMD5.POS.LAT.left=-16384\n"
-     "MD5.POS.LON=-16384\nMD5.POS.LON.udeg=-351563\nMD5.POS.LON.left=16384\nend=ok\n"},
+     "MD5.POS.LON=-16384\nMD5.POS.LON.udeg=-351563\nMD5.POS.LON.left=16384\nend=ok\n", WORD(0, 48, 0, 9)},
     {"07 09 40 20 00 3F FF 00 00 01",
      "cat=7\nlen=9\nitems=M5N\nM5N.chain=1\nM5N.POS.LAT=16383\nM5N.POS.LAT.udeg=351541\nM5N.POS.LAT.left=1387\n"
-     "M5N.POS.LON=1\nM5N.POS.LON.udeg=21\nM5N.POS.LON.left=14997\nend=ok\n"},
-    {"30 04 40 01 00", "cat=48\nlen=4\nitems=M5N\nM5N.chain=2\nend=ok\n"},
-    {"15 04 80 00 00", "cat=21\nlen=4\nitems=BPS\nBPS=0\nBPS.tenths=8000\nBPS.sense=atmost\nend=ok\n"},
-    {"15 04 80 00 01", "cat=21\nlen=4\nitems=BPS\nBPS=1\nBPS.tenths=8001\nBPS.sense=equal\nend=ok\n"},
-    {"15 04 80 0F FE", "cat=21\nlen=4\nitems=BPS\nBPS=4094\nBPS.tenths=12094\nBPS.sense=equal\nend=ok\n"},
-    {"15 04 80 0F FF", "cat=21\nlen=4\nitems=BPS\nBPS=4095\nBPS.tenths=12095\nBPS.sense=atleast\nend=ok\n"},
-    {"30 03 20 0F", "cat=48\nrefused=6\nat=2\n"},
-    {"09 02 00", "cat=9\nrefused=1\nat=0\n"},
-    {"30", "cat=48\nrefused=2\nat=0\n"},
-    {"", "cat=none\nrefused=2\nat=0\n"},
+     "M5N.POS.LON=1\nM5N.POS.LON.udeg=21\nM5N.POS.LON.left=14997\nend=ok\n", WORD(0, 7, 0, 9)},
+    {"30 04 40 01 00", "cat=48\nlen=4\nitems=M5N\nM5N.chain=2\nend=ok\n", WORD(0, 48, 0, 4)},
+    {"15 04 80 00 00", "cat=21\nlen=4\nitems=BPS\nBPS=0\nBPS.tenths=8000\nBPS.sense=atmost\nend=ok\n", WORD(0, 21, 0, 4)},
+    {"15 04 80 00 01", "cat=21\nlen=4\nitems=BPS\nBPS=1\nBPS.tenths=8001\nBPS.sense=equal\nend=ok\n", WORD(0, 21, 0, 4)},
+    {"15 04 80 0F FE", "cat=21\nlen=4\nitems=BPS\nBPS=4094\nBPS.tenths=12094\nBPS.sense=equal\nend=ok\n", WORD(0, 21, 0, 4)},
+    {"15 04 80 0F FF", "cat=21\nlen=4\nitems=BPS\nBPS=4095\nBPS.tenths=12095\nBPS.sense=atleast\nend=ok\n", WORD(0, 21, 0, 4)},
+    {"30 03 20 0F", "cat=48\nrefused=6\nat=2\n", REFUSED(18, 2)},
+    {"09 02 00", "cat=9\nrefused=1\nat=0\n", REFUSED(18, 1)},
+    {"30", "cat=48\nrefused=2\nat=0\n", REFUSED(18, 2)},
+    {"", "cat=none\nrefused=2\nat=0\n", REFUSED(18, 1)},
 };
 
 static struct octets letters(const char *text)
@@ -506,6 +510,80 @@ static void test_sheet(void)
     }
 }
 
+/* ---- ref_rebuild, by hand from 02, Ask 6: what is no sheet is refused at its line */
+
+static const struct rebuild_row {
+    const char *text;
+    size_t room;
+    uint64_t word;
+} rebuild_rows[] = {
+    {"", 52, REFUSED(18, 1)},
+    {"\n", 52, REFUSED(18, 1)},
+    {"cat=48", 52, REFUSED(18, 1)},
+    {"cat=48\n", 52, REFUSED(18, 2)},
+    {"cat=48\nlen=2\nitems=\nend=ok", 52, REFUSED(18, 4)},
+    {"cat=48\nlen=2\nitems=\n", 52, REFUSED(18, 4)},
+    {"cat=48\nlen=2\nitems=\nend=ok\n\n", 52, REFUSED(18, 5)},
+    {"cat=048\nlen=2\nitems=\nend=ok\n", 52, REFUSED(18, 1)},
+    {"cat=48\nlen=1\nitems=\nend=ko\n", 52, REFUSED(18, 2)},
+    {"cat=48\nlen=256\nitems=\nend=ko\n", 52, REFUSED(18, 2)},
+    {"cat=48\nlen=02\nitems=\nend=ko\n", 52, REFUSED(18, 2)},
+    {"cat=48\nlen=255\nitems=\nend=ko\n", 52, REFUSED(18, 4)},
+    {"cat=48\nlen=255\nitems=\nend=ok\n", 0, REFUSED(18, 2)},
+    {"cat=48\nlen=2\nitems=\nend=ok\n", 1, REFUSED(11, 0)},
+    {"cat=48\nlen=2\nitems=\nend=ko\n", 0, REFUSED(18, 4)},
+    {"cat=48\nlen=6\nitems=ERR,M4E\nM4E=3\nERR=65536\nend=ok\n", 52, REFUSED(18, 3)},
+    {"cat=48\nlen=6\nitems=M4E,ERR\nM4E=4\nERR=65536\nend=ok\n", 52, REFUSED(18, 4)},
+    {"cat=48\nlen=6\nitems=M4E,ERR\nM4E=3\nERR=16777216\nend=ok\n", 52, REFUSED(18, 5)},
+    {"cat=48\nlen=5\nitems=M5N\nM5N.chain=1\nM5N.FOM=31\nend=ok\n", 52, REFUSED(18, 5)},
+    {"cat=48\nlen=5\nitems=MD5\nMD5.GA.GA=-40\nMD5.GA.RES=0\nend=ok\n", 52, REFUSED(18, 4)},
+    {"cat=21\nlen=4\nitems=BPS\nBPS=1\nBPS.tenths=8000\nBPS.sense=equal\nend=ok\n", 52, REFUSED(18, 5)},
+    {"cat=21\nlen=4\nitems=BPS\nBPS=1\nBPS.tenths=8001\nBPS.sense=atmost\nend=ok\n", 52, REFUSED(18, 6)},
+};
+
+static void rebuild_as(const char *row, size_t room, uint64_t word, const struct octets *field)
+{
+    struct octets text = letters(row), lent = text, out = filled(room);
+    struct octets after = REF_NUMBER(word) == 0 ? fronted(out, field) : out;
+    uint64_t got = ref_rebuild(lent.all + GUARD, lent.n, out.all + GUARD, out.n);
+    check(got == word, "word of ref_rebuild", row, room);
+    check(same_octets(&out, &after), "output of ref_rebuild", row, room);
+    check(same_octets(&lent, &text), "text of ref_rebuild", row, room);
+}
+
+static void test_rebuild(void)
+{
+    struct octets nothing = filled(0);
+    for (size_t i = 0; i < COUNT(rebuild_rows); i++)
+        rebuild_as(rebuild_rows[i].text, rebuild_rows[i].room, rebuild_rows[i].word, &nothing);
+    for (size_t i = 0; i < COUNT(sheet_rows); i++) {
+        const struct sheet_row *row = sheet_rows + i;
+        int accepted = REF_NUMBER(row->rebuilt) == REF_ACCEPTED;
+        struct octets field = accepted ? hex(row->input + 3) : nothing;
+        rebuild_as(row->text, REF_LONGEST, row->rebuilt, &field);
+        rebuild_as(row->text, field.n, row->rebuilt, &field);
+        rebuild_as(row->text, field.n - (size_t)accepted, accepted ? REFUSED(11, 0) : row->rebuilt, &field);
+        rebuild_as(row->text, 0, accepted ? REFUSED(11, 0) : row->rebuilt, &field);
+    }
+}
+
+/* A sheet and line feeds behind it: its line 7 is wrong, and behind 32,768 octets its line 0. */
+static void test_long_text(void)
+{
+    static uint8_t text[GUARD + REF_LONGEST_TEXT + 1 + GUARD], before[sizeof text];
+    static const char sheet[] = "cat=48\nlen=6\nitems=M4E,ERR\nM4E=3\nERR=65536\nend=ok\n";
+    struct octets out = filled(52), after = out;
+    memset(text, '\n', sizeof text);
+    memcpy(text + GUARD, sheet, sizeof sheet - 1);
+    memcpy(before, text, sizeof text);
+    uint64_t longest = ref_rebuild(text + GUARD, REF_LONGEST_TEXT, out.all + GUARD, out.n);
+    uint64_t longer = ref_rebuild(text + GUARD, REF_LONGEST_TEXT + 1, out.all + GUARD, out.n);
+    check(longest == REFUSED(18, 7), "word of ref_rebuild", "the longest text", REF_LONGEST_TEXT);
+    check(longer == REFUSED(18, 0), "word of ref_rebuild", "a longer text", REF_LONGEST_TEXT + 1);
+    check(same_octets(&out, &after), "output of ref_rebuild", "a long text", out.n);
+    check(memcmp(text, before, sizeof text) == 0, "text of ref_rebuild", "a long text", sizeof text);
+}
+
 int main(void)
 {
     test_read();
@@ -515,6 +593,8 @@ int main(void)
     test_edit();
     test_copy();
     test_sheet();
+    test_rebuild();
+    test_long_text();
     printf("%u checks, %u wrong\n", checks, failures);
     return failures != 0;
 }
