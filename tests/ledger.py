@@ -26,7 +26,6 @@ PROMISES = [
     ("layout", "`is_known`, `items_of`, `spare_of`, `longest_of`, `is_item`, `number_at`, `which_number`"),
     ("scope", "01's operations, the visitors' copy, the pressure and the exact angle as definitions: the edge octets and sheets computed from them"),
     ("outputs", "`deliver`"),
-    ("demands", "the three demands, what is asked of the visitors' copy, of two members, of the pressure and of the exact angle, and that the program which `scope` defines meets them"),
     ("lengths", "`format_of`"),
     ("shapes", "`shape_at`"),
     ("spots", "`spot_at`, `spot_of`"),
@@ -42,16 +41,24 @@ PROMISES = [
     ("longest", "the longest sheet"),
     ("sheet", "`sheet`, `listed`"),
     ("words", "`word_at`, `number`, `signed`, `small`, `room`, `whole`"),
+    ("guess", "reading the sheet back as a definition, that its answer is the right one and the only one, and texts computed from it"),
+    ("demands", "the three demands, what is asked of the visitors' copy, of two members, of the pressure, of the exact angle and of reading the sheet back, and that the program which `scope` and `guess` define meets them"),
+    ("walk", "`past`, `line`, `next`, `skip`, `word`, `value`, `bounded`, `ended`"),
+    ("compare", "`opens`, `first_wrong`"),
+    ("taken", "`record`"),
+    ("rebuild", "`rebuild`"),
     ("hex", "`is_octets`, `octets`, `is_list`, `list`"),
     ("protocol", "`parse`, `record_at`"),
-    ("replies", "`bad_request`, `refusal`, `left`, `view_text`, `choice_text`, `reading_text`, `sheet_text`"),
+    ("replies", "`bad_request`, `refusal`, `left`, `rebuilt_text`, `view_text`, `choice_text`, `reading_text`, `sheet_text`"),
     ("requests", "`answer`"),
     ("lines", "`join`"),
+    ("interface", "what crosses to C as definitions, and that a word tells its answer"),
     ("arrays", "`read_array`, `write_array`"),
-    ("exports", "`ref_read`, `ref_write`, `ref_view`, `ref_choose`, `ref_remove`, `ref_replace`, `ref_copy`, `ref_sheet`"),
+    ("exports", "`ref_read`, `ref_write`, `ref_view`, `ref_choose`, `ref_remove`, `ref_replace`, `ref_copy`, `ref_sheet`, `ref_rebuild`"),
     ("promises", "the code computes the program of the demands, each promise allows one result, and runs are as 02 asks by their contracts alone"),
     ("inputs", "`read_in`"),
     ("listing", "the private function behind `main`: what is written is the sheet of what was read"),
+    ("unlisting", "the private functions behind `main`: what is written is the category and the field of the text that was read, or its refusal"),
     ("refdesk", "the private functions behind `main`: between two reads what is left of the input's last line is held"),
 ]
 
@@ -180,9 +187,11 @@ def reached(name, named):
 
 
 def wanting():
-    """The public functions with fewer wrong programs than they must have."""
-    return [f"{crate}::{name}" for crate, edits in edits_of_crates().items()
-            for name, found in wrong_programs(crate, edits).items() if len(found) < (1 if crate in DOORS else 2)]
+    """The public functions, of whatever crate, with fewer wrong programs than they must have."""
+    edits = edits_of_crates()
+    crates = sorted(path.parent.parent.name for path in ROOT.glob("crates/*/src/lib.rt"))
+    return [f"{crate}::{name}" for crate in crates for name, found in wrong_programs(crate, edits.get(crate, [])).items()
+            if len(found) < (1 if crate in DOORS else 2)]
 
 
 # ---- what the edits take: each proves its crate again

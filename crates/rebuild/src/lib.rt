@@ -1,7 +1,7 @@
 // Rebuilds the octets of a field from its sheet (02, Ask 6): what the text would hold if it were a sheet is written, that field's own sheet is printed, and the
 // two texts are compared.
 // Promises: `rebuild` gives the category and the octets of exactly the sheets of accepted fields, and of every other text the line at which no sheet could still
-// agree; a refusal has category 0 and writes nothing. Stands on taken for what the text holds, on writer and sheet, on walk for the comparison, and on outputs.
+// agree; a refusal has category 0 and writes nothing. Stands on taken for what the text holds, on writer and sheet, on compare, and on outputs.
 ghost use mathlib.Core.Path.{_≡_};
 ghost use mathlib.Core.List.{_∷_};
 ghost use Prim.Native.Nat.{ℕ};
@@ -62,7 +62,7 @@ fn wrong(cat: u8, len: u64, field: &[u8], text: &[u8]) -> usize
     let second = text::pair(b"cat", cat as u64, 0, &mut buf);
     let third = text::pair(b"len", len, second, &mut buf);
     let last = text::word(walk::skip(&own[..end], 2), third, &mut buf);
-    walk::first_wrong(&buf[..last], text)
+    compare::first_wrong(&buf[..last], text)
 }
 
 // The category and the octets of the field whose sheet a text is, into the front of an output: 18, 11.

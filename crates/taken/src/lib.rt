@@ -1,6 +1,6 @@
 // What a text would hold if it were a sheet (02, Ask 6), taken in one walk over the tables and the text's lines that refuses nothing: where a line says nothing
 // that could stand there, something that can be printed is taken.
-// Promises: `record` gives the record of the guess, for every text. Stands on walk for lines and words, on flags, and on lengths, shapes and spots.
+// Promises: `record` gives the record of the guess, for every text. Stands on walk and compare for lines and words, on flags, and on lengths, shapes and spots.
 ghost use mathlib.Core.Path.{_≡_};
 ghost use Prim.Native.Nat.{_+_, _-_, _^_, _≤_, _<_};
 ghost use lib.Dec.{T};
@@ -134,7 +134,7 @@ fn is_there(t: &[u8], b: usize, n: usize) -> bool
     }
     let heads =
         b" MD5.SUM.M5= MD5.PMN.PIN= MD5.POS.LAT= MD5.GA.RES= MD5.EM1.V= MD5.TOS= MD5.XP.XP=   M5N.SUM.M5= M5N.PMN.PIN= M5N.POS.LAT= M5N.GA.RES= M5N.EM1.V= M5N.TOS= M5N.XP.XP= M5N.FOM=   RPC.SCO= RPC.SCR= RPC.RW= RPC.AR=                MES.SUM.M5= MES.PNO.PIN= MES.EM1.V= MES.XP.XP= MES.FOM= MES.M2.V= ";
-    walk::opens(walk::word(heads, b), t)
+    compare::opens(walk::word(heads, b), t)
 }
 
 // The left lines from line b on: from no text those that are not there, which gives zeros.
@@ -289,12 +289,12 @@ fn names(w: &[u8], comma: usize, k: usize, i: usize, left: usize, items: u8) -> 
         return items;
     }
     let before = leaves::front(b",", comma);
-    if walk::opens(before, w) {
+    if compare::opens(before, w) {
         let spot = spots::spot_at(k);
         let all = b"MD5 M5N M4E RPC ERR BPS SelH NAV GAO SGV STA TNH MES TA";
         let name = walk::word(all, leaves::wide(spot.0));
         let rest = walk::past(w, before.len());
-        if walk::opens(name, rest) {
+        if compare::opens(name, rest) {
             let with = flags::with_item(items, i);
             return names(
                 walk::past(rest, name.len()),
@@ -321,10 +321,10 @@ fn category(t: &[u8]) -> u8
     ensures { λ r. ⌜ r ≡ categoryIn (now (t .entry)) ⌝ }
 {
     let first = walk::line(t);
-    if walk::opens(b"cat=21", first) {
+    if compare::opens(b"cat=21", first) {
         return 21;
     }
-    if walk::opens(b"cat=7", first) {
+    if compare::opens(b"cat=7", first) {
         return 7;
     }
     48

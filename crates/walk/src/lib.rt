@@ -1,12 +1,11 @@
-// The lines of a text: the first line and what follows, its value as a number, how a text begins, and the first line in which two texts differ.
+// The lines of a text: the first line and what follows, its words, and its value as a number.
 // Promises: each is one equation of guess's definitions, for every text. Stands on words for the numbers.
 ghost use mathlib.Core.Path.{_≡_};
 ghost use mathlib.Core.List.{[]};
-ghost use Prim.Native.Nat.{_<_};
 ghost use lib.ListN.{getD, drop};
 ghost use Rattle.guess.specs.Fits.{beforeOctet, behindOctet, untilFeed, behindFeed, behindFeeds};
-ghost use Rattle.guess.specs.Guess.{valueIn, boundedIn, begins, firstWrong};
-ghost use Rattle.walk.specs.Steps.{placeIn, wordsIn, counted};
+ghost use Rattle.guess.specs.Guess.{valueIn, boundedIn};
+ghost use Rattle.walk.specs.Steps.{placeIn, wordsIn};
 ghost use Rattle.walk.specs.Ends.{between, endedIn};
 
 // The place of the first octet x, or the length.
@@ -100,56 +99,6 @@ pub fn bounded(t: &[u8], lo: u32, hi: u32) -> u64
         return lo as u64;
     }
     n
-}
-
-// Whether a text begins with a word.
-pub fn opens(w: &[u8], t: &[u8]) -> bool
-    ensures { λ r. ⌜ r ≡ begins (now (w .entry)) (now (t .entry)) ⌝ }
-{
-    let mut i: usize = 0;
-    while i < w.len() {
-        if i >= t.len() {
-            return false;
-        }
-        if t[i] != w[i] {
-            return false;
-        }
-        i += 1;
-    }
-    true
-}
-
-// How many line feeds there are, an octet being one more.
-fn count(k: usize, o: u8) -> usize
-    requires { ⌜ k < 18446744073709551615 ⌝ }
-    ensures { λ r. ⌜ r ≡ counted k o ⌝ }
-{
-    if o == b'\n' {
-        return k + 1;
-    }
-    k
-}
-
-// The line, from 1, in which two texts differ first; 0 if they are the same.
-pub fn first_wrong(s: &[u8], t: &[u8]) -> usize
-    ensures { λ r. ⌜ r ≡ firstWrong 1 (now (s .entry)) (now (t .entry)) ⌝ }
-{
-    let mut i: usize = 0;
-    let mut k: usize = 0;
-    while i < s.len() {
-        if i >= t.len() {
-            return k + 1;
-        }
-        if s[i] != t[i] {
-            return k + 1;
-        }
-        k = count(k, s[i]);
-        i += 1;
-    }
-    if i < t.len() {
-        return k + 1;
-    }
-    0
 }
 
 fn is_between(z: i32, lo: i32, hi: i32) -> bool

@@ -25,7 +25,7 @@ use Rattle.flags.proofs.without_item.Reads as without-item-reads
 use Rattle.leaves.proofs.front.Reads as front-reads
 use Rattle.leaves.proofs.wide.Reads as wide-reads
 use Rattle.spots.proofs.spot_at.Reads as spot-at-reads
-use Rattle.walk.proofs.opens.Reads as opens-reads
+use Rattle.compare.proofs.opens.Reads as opens-reads
 use Rattle.walk.proofs.past.Reads as past-reads
 use Rattle.walk.proofs.word.Reads as word-reads
 use Rattle.taken.proofs.+names.{statement}

@@ -1,13 +1,13 @@
--- `walk::opens` meets its contract: what is left of the text begins with what is left of the word exactly if it does at all. Assumes nothing.
+-- `compare::opens` meets its contract: what is left of the text begins with what is left of the word exactly if it does at all. Assumes nothing.
 use mathlib.Core.Path.{_≡_, refl, sym, _∙_}
 use Prim.Native.Nat.{_-_}
 use native.Mathlib.Omega.{arith}
 use denote.Ref.{now}
 use lib.ListN.{length, drop}
 use Rattle.guess.specs.Guess.{begins}
-use Rattle.walk.specs.Steps.{begins-end, begins-short, begins-other, begins-more}
-use Rattle.walk.proofs.opens.Statement.{statement}
-use Rattle.walk.proofs.opens.Tie as tie
+use Rattle.compare.specs.Steps.{begins-end, begins-short, begins-other, begins-more}
+use Rattle.compare.proofs.opens.Statement.{statement}
+use Rattle.compare.proofs.opens.Tie as tie
 
 abbrev Inv-loop : tie.InvT-loop
 Inv-loop w t i₀ i = begins w t ≡ begins (drop i w) (drop i t)

@@ -1,13 +1,13 @@
--- `walk::first_wrong` meets its contract: from each place that the loop reaches the first wrong line is the same. Assumes nothing.
+-- `compare::first_wrong` meets its contract: from each place that the loop reaches the first wrong line is the same. Assumes nothing.
 use mathlib.Core.Path.{_≡_, refl, sym, _∙_}
 use Prim.Native.Nat.{_+_, _-_, _≤_}
 use native.Mathlib.Omega.{arith}
 use denote.Ref.{now}
 use lib.ListN.{length, getD, drop}
 use Rattle.guess.specs.Guess.{firstWrong}
-use Rattle.walk.specs.Steps.{counted-most, wrong-end, wrong-more-text, wrong-less-text, wrong-here, wrong-on}
-use Rattle.walk.proofs.first_wrong.Statement.{statement}
-use Rattle.walk.proofs.first_wrong.Tie as tie
+use Rattle.compare.specs.Steps.{counted-most, wrong-end, wrong-more-text, wrong-less-text, wrong-here, wrong-on}
+use Rattle.compare.proofs.first_wrong.Statement.{statement}
+use Rattle.compare.proofs.first_wrong.Tie as tie
 
 abbrev Inv-loop : tie.InvT-loop
 Inv-loop s t i₀ k₀ i k = (firstWrong 1 s t ≡ firstWrong (k + 1) (drop i s) (drop i t)) × (k ≤ i)

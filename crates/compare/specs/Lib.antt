@@ -1,0 +1,2 @@
+-- The ways through the code of the comparison.
+pub mod Steps
