@@ -1,5 +1,5 @@
 -- A number of a piece is one between its two ends, so that code needs only a table of ends.
-use mathlib.Core.Path.{_≡_, refl, sym, ap, _∙_, subst}
+use mathlib.Core.Path.{_≡_, refl, sym, ap, ap₂, _∙_, subst}
 use mathlib.Core.Bool.{Bool, true, false, _&&_}
 use mathlib.Core.List.{List}
 use Prim.Native.Nat.{ℕ, zero, suc, _+_, _-_, _*_, _^_, _/_, _≤_, zero-le}
@@ -71,13 +71,22 @@ fits-between k w e z = same-test (fitsPiece k w z) (between (lowest k w) (highes
 unfoldable pub endedIn : ℤ → ℤ → List ℕ → ℤ
 endedIn lo hi t = pick (between lo hi (wholeIn (valueIn t))) (wholeIn (valueIn t)) (pos 0)
 
-pub ended-there : (lo hi : ℤ) (t : List ℕ) {n : ℤ} → n ≡ wholeIn (valueIn t) → true ≡ between lo hi n → n ≡ endedIn lo hi t
-unfolding endedIn
-ended-there lo hi t {n} e b = e ∙ ap (λ x. pick x (wholeIn (valueIn t)) (pos 0)) (b ∙ ap (between lo hi) e)
+module _ (lo hi : ℤ) (t : List ℕ) {n : ℤ} (e : n ≡ wholeIn (valueIn t)) where
+  ended-by : (b : Bool) → between lo hi n ≡ b → pick b n (pos 0) ≡ endedIn lo hi t
+  unfolding endedIn
+  ended-by b eb = ap₂ (λ x z. pick x z (pos 0)) (sym eb ∙ ap (between lo hi) e) e
 
-pub ended-none : (lo hi : ℤ) (t : List ℕ) {n : ℤ} → n ≡ wholeIn (valueIn t) → false ≡ between lo hi n → pos 0 ≡ endedIn lo hi t
-unfolding endedIn
-ended-none lo hi t {n} e b = ap (λ x. pick x (wholeIn (valueIn t)) (pos 0)) (b ∙ ap (between lo hi) e)
+  pub ended-there : leZ lo n ≡ true → leZ n hi ≡ true → n ≡ endedIn lo hi t
+  unfolding between
+  ended-there a b = ended-by true (rw (a, b) refl)
+
+  pub ended-high : leZ lo n ≡ true → leZ n hi ≡ false → pos 0 ≡ endedIn lo hi t
+  unfolding between
+  ended-high a b = ended-by false (rw (a, b) refl)
+
+  pub ended-low : leZ lo n ≡ false → pos 0 ≡ endedIn lo hi t
+  unfolding between
+  ended-low a = ended-by false (rw a refl)
 
 abbrev fitting : Kind → ℕ → ℤ → ℤ
 fitting k w z = pick (fitsPiece k w z) z (pos 0)

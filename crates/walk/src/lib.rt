@@ -6,7 +6,7 @@ ghost use lib.ListN.{getD, drop};
 ghost use Rattle.guess.specs.Fits.{beforeOctet, behindOctet, untilFeed, behindFeed, behindFeeds};
 ghost use Rattle.guess.specs.Guess.{valueIn, boundedIn};
 ghost use Rattle.walk.specs.Steps.{placeIn, wordsIn};
-ghost use Rattle.walk.specs.Ends.{between, endedIn};
+ghost use Rattle.walk.specs.Ends.{endedIn};
 
 // The place of the first octet x, or the length.
 fn find(s: &[u8], x: u8) -> usize
@@ -101,22 +101,15 @@ pub fn bounded(t: &[u8], lo: u32, hi: u32) -> u64
     n
 }
 
-fn is_between(z: i32, lo: i32, hi: i32) -> bool
-    ensures { λ r. ⌜ r ≡ between lo hi z ⌝ }
-{
-    if lo <= z {
-        return z <= hi;
-    }
-    false
-}
-
 // A plain decimal from lo to hi, else 0.
 pub fn ended(t: &[u8], lo: i32, hi: i32) -> i32
     ensures { λ r. ⌜ r ≡ endedIn lo hi (now (t .entry)) ⌝ }
 {
     let n = words::whole(value(t));
-    if is_between(n, lo, hi) {
-        return n;
+    if lo <= n {
+        if n <= hi {
+            return n;
+        }
     }
     0
 }

@@ -2,7 +2,7 @@
 use mathlib.Core.Path.{_≡_, refl, sym, ap, _∙_}
 use mathlib.Core.Logic.{⊎-elim}
 use mathlib.Core.List.{map}
-use Prim.Native.Nat.{ℕ, _<_}
+use Prim.Native.Nat.{ℕ, _+_, _-_, _≤_, _<_}
 use native.Mathlib.Omega.{arith}
 use borrow.Author.Needs.{needs}
 use denote.Ref.{now}
@@ -70,6 +70,14 @@ names-are : wordsIn (text "MD5 M5N M4E RPC ERR BPS SelH NAV GAO SGV STA TNH MES 
 unfolding wordsIn named names048 names021 names007
 names-are = refl
 
+-- what the rest asks, whether the name stood there or not
+rest-asked : (t : ℕ) (e : names-lts.Else1 (calls t) (names-at t) names.Post)
+    → (let a = e .before .before .args in (a .left - 1 < t) × ((a .k + 1 + (a .left - 1) ≤ 200) × (a .i + 1 + (a .left - 1) ≤ 8)))
+rest-asked t e =
+    let s = e .before .before in
+    let g = s .pre .1 in
+    (omega (arith, s .pre .0, e .if1 .left), (omega (arith, g, e .if1 .left), omega (arith, g, e .if1 .left)))
+
 names-returns : (t : ℕ) → names-lts.Need-returns (calls t) (names-at t) names.Post
 names-returns t c =
     let s = c .before .before in
@@ -116,11 +124,7 @@ names-sub-names : (t : ℕ) → names-lts.Need-sub-names (calls t) (names-at t) 
 names-sub-names t c = let e = c .before .before .before .before .before .before .before .before .before .before .before .before .before .before in omega (arith, e .if1 .left)
 
 names-names-requires : (t : ℕ) → names-lts.Need-names-requires (calls t) (names-at t) names.Post
-names-names-requires t c κs =
-    let e = c .before .before .before .before .before .before .before .before .before .before .before .before .before .before in
-    let s = e .before .before in
-    let g = s .pre .1 in
-    (omega (arith, s .pre .0, e .if1 .left), (omega (arith, g, e .if1 .left), omega (arith, g, e .if1 .left)))
+names-names-requires t c κs = rest-asked t (c .before .before .before .before .before .before .before .before .before .before .before .before .before .before)
 
 names-returns-2 : (t : ℕ) → names-lts.Need-returns-2 (calls t) (names-at t) names.Post
 names-returns-2 t c =
@@ -154,11 +158,7 @@ names-without-item-requires : (t : ℕ) → names-lts.Need-without-item-requires
 names-without-item-requires t c κs = tt
 
 names-names-requires-2 : (t : ℕ) → names-lts.Need-names-requires-2 (calls t) (names-at t) names.Post
-names-names-requires-2 t c κs =
-    let e = c .before .before .before .before .before in
-    let s = e .before .before in
-    let g = s .pre .1 in
-    (omega (arith, s .pre .0, e .if1 .left), (omega (arith, g, e .if1 .left), omega (arith, g, e .if1 .left)))
+names-names-requires-2 t c κs = rest-asked t (c .before .before .before .before .before)
 
 names-returns-3 : (t : ℕ) → names-lts.Need-returns-3 (calls t) (names-at t) names.Post
 names-returns-3 t c =
