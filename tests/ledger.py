@@ -43,7 +43,7 @@ PROMISES = [
     ("words", "`word_at`, `number`, `signed`, `small`, `room`, `whole`"),
     ("guess", "reading the sheet back as a definition, that its answer is the right one and the only one, and texts computed from it"),
     ("demands", "the three demands, what is asked of the visitors' copy, of two members, of the pressure, of the exact angle and of reading the sheet back, and that the program which `scope` and `guess` define meets them"),
-    ("walk", "`past`, `line`, `next`, `skip`, `word`, `value`, `bounded`, `ended`"),
+    ("walk", "`past`, `line`, `next`, `skip`, `word`, `value`, `bounded`, `ranged`"),
     ("compare", "`opens`, `first_wrong`"),
     ("taken", "`record`"),
     ("rebuild", "`rebuild`"),

@@ -23,7 +23,7 @@ use Rattle.protocol.specs.Forms.{parseOf}
 use Rattle.protocol.specs.Record.{recordIn}
 use Rattle.protocol.specs.declared.Judged.{Judged}
 use Rattle.protocol.specs.declared.Judged.the-variants.{Asks, Wrong}
-use Rattle.replies.specs.Texts.{badRequest, refusalText, outputText, rebuiltText, viewText, choiceText, readingText, sheetText}
+use Rattle.replies.specs.Texts.{badRequest, refusalText, outputText, givenText, viewText, choiceText, readingText, sheetText}
 
 -- ---- what the words of a request are, by their kinds
 
@@ -83,7 +83,7 @@ copyAnswer word = outputText (copyOf (CAT (word 1)) (octetsIn (word 2)) (listIn 
 
 -- `rebuild TEXT ROOM`
 unfoldable pub rebuildAnswer : (ℕ → List ℕ) → List ℕ
-rebuildAnswer word = rebuiltText (rebuildOf (octetsIn (word 1)) (ROOM (word 2)))
+rebuildAnswer word = givenText (rebuildOf (octetsIn (word 1)) (ROOM (word 2)))
 
 -- ---- a line
 

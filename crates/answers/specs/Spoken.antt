@@ -27,12 +27,12 @@ use Rattle.text.specs.Decimals.{valueFrom, valueOf, isDigit}
 use Rattle.text.specs.Laws.Decimals.{areDigits}
 use Rattle.text.specs.Hex.{capital, pairText, pairsText, hexText}
 use Rattle.words.specs.Numbers.{leads, goesOn, isNumber, numberIn, isSigned, signedValue, signedIn, valueIn}
-use Rattle.guess.specs.Fits.{beforeOctet, behindOctet, behindFeeds}
+use Rattle.guess.specs.Lines.{beforeOctet, behindOctet, behindFeeds}
 use Rattle.guess.specs.Guess.{valueIn as lineValue, fitsPiece, pieceIn, boundedIn, linesFor, behindKeys, numbersIn, takenLines, leftLines, begins, keyText, headOf, openIn, bit, bits, countIn, behindCount, thereIn, keysIn, itemNumbers, itemIn, itemLeft, rowIn, namesIn, indicatorOf, indicatorIn, categoryOf, categoryIn, lengthIn, contentsIn, guessOf, sheetWith, firstWrong as firstWrongLine, givenOf, rebuildOf}
 use Rattle.hex.specs.Octets.{hexDigit, areHex, isOctets, octetOf, octetsOf, octetsIn, isList, listIn}
 use Rattle.protocol.specs.Line.{glued, wordsOf, same}
 use Rattle.protocol.specs.Forms.{fits, forms, firstWrong, judgedAs, judgedBy, parseOf}
-use Rattle.replies.specs.Texts.{next, nextSigned, nextOctets, badRequest, refusalText, outputText, givenText, rebuiltText, shownText, viewText, choiceIn, choiceText, wordsText, recordText, readIn, readingText, inLine, lineOctet, sheetText}
+use Rattle.replies.specs.Texts.{next, nextSigned, nextOctets, badRequest, refusalText, outputText, rebuiltText, givenText, shownText, viewText, choiceIn, choiceText, wordsText, recordText, readIn, readingText, inLine, lineOctet, sheetText}
 use Rattle.answers.specs.Answers.{listed, readAnswer, writeAnswer, sheetAnswer, viewAnswer, chooseAnswer, removeAnswer, replaceAnswer, copyAnswer, rebuildAnswer, asked, said, answerOf}
 
 pub record Spoken : Type 0 where
@@ -73,5 +73,5 @@ spoken =
     ∷ []
 
 pub spoken-answers : map (λ (x : Spoken). answerOf (text (x .asked))) spoken ≡ map (λ (x : Spoken). text (x .told)) spoken
-unfolding spoken listed readAnswer writeAnswer sheetAnswer viewAnswer chooseAnswer removeAnswer replaceAnswer copyAnswer rebuildAnswer asked said answerOf next nextSigned nextOctets badRequest refusalText outputText givenText rebuiltText shownText viewText choiceIn choiceText wordsText recordText readIn readingText inLine lineOctet sheetText glued wordsOf same fits forms firstWrong judgedAs judgedBy parseOf leads goesOn isNumber isSigned valueIn hexDigit areHex isOctets octetOf octetsOf octetsIn isList listIn valueFrom valueOf isDigit areDigits capital pairText pairsText hexText fieldOf shown readOf withRoom isItem present standing viewIn viewOf partOf chooseIn chooseOf sideOf chosenOf onList afresh editIn editOf without copyIn copyOf digitsOf decimal signedDecimal numberText numbersText partsThere subfieldsThere linesThere linesText chainText itemText rowText itemsText fieldText sheetOf keyLine cat048 known paperOf whichNumber names048 namesOf allParts allNumbers allSlots flatten toSigned ofSigned total cut join number toNum ofNum limit widths count clear nums unnums inLimits cells line slotsOf slots beside fxOf chain isOne subfields item linesOf uncons firstFlag nextFlags row allZero indicator body texts textsOf before lenOf settle readFrame writeFrame setFlag setItem blankAt alone putIn change inSigned inNum numberIn signedValue signedIn beforeOctet behindOctet behindFeeds lineValue fitsPiece pieceIn boundedIn linesFor behindKeys numbersIn takenLines leftLines begins keyText headOf openIn bit bits countIn behindCount thereIn keysIn itemNumbers itemIn itemLeft rowIn namesIn indicatorOf indicatorIn categoryOf categoryIn lengthIn contentsIn guessOf sheetWith firstWrongLine givenOf rebuildOf categoryGiven octetsGiven
+unfolding spoken listed readAnswer writeAnswer sheetAnswer viewAnswer chooseAnswer removeAnswer replaceAnswer copyAnswer rebuildAnswer asked said answerOf next nextSigned nextOctets badRequest refusalText outputText rebuiltText givenText shownText viewText choiceIn choiceText wordsText recordText readIn readingText inLine lineOctet sheetText glued wordsOf same fits forms firstWrong judgedAs judgedBy parseOf leads goesOn isNumber isSigned valueIn hexDigit areHex isOctets octetOf octetsOf octetsIn isList listIn valueFrom valueOf isDigit areDigits capital pairText pairsText hexText fieldOf shown readOf withRoom isItem present standing viewIn viewOf partOf chooseIn chooseOf sideOf chosenOf onList afresh editIn editOf without copyIn copyOf digitsOf decimal signedDecimal numberText numbersText partsThere subfieldsThere linesThere linesText chainText itemText rowText itemsText fieldText sheetOf keyLine cat048 known paperOf whichNumber names048 namesOf allParts allNumbers allSlots flatten toSigned ofSigned total cut join number toNum ofNum limit widths count clear nums unnums inLimits cells line slotsOf slots beside fxOf chain isOne subfields item linesOf uncons firstFlag nextFlags row allZero indicator body texts textsOf before lenOf settle readFrame writeFrame setFlag setItem blankAt alone putIn change inSigned inNum numberIn signedValue signedIn beforeOctet behindOctet behindFeeds lineValue fitsPiece pieceIn boundedIn linesFor behindKeys numbersIn takenLines leftLines begins keyText headOf openIn bit bits countIn behindCount thereIn keysIn itemNumbers itemIn itemLeft rowIn namesIn indicatorOf indicatorIn categoryOf categoryIn lengthIn contentsIn guessOf sheetWith firstWrongLine givenOf rebuildOf categoryGiven octetsGiven
 spoken-answers = refl

@@ -1,2 +1,3 @@
--- The ways through the code of the comparison.
-pub mod Steps
+-- Two texts beside each other.
+pub mod Lines
+pub mod Laws

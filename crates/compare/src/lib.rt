@@ -3,7 +3,7 @@
 ghost use mathlib.Core.Path.{_≡_};
 ghost use Prim.Native.Nat.{_<_};
 ghost use Rattle.guess.specs.Guess.{begins, firstWrong};
-ghost use Rattle.compare.specs.Steps.{counted};
+ghost use Rattle.compare.specs.Lines.{counted};
 
 // Whether a text begins with a word.
 pub fn opens(w: &[u8], t: &[u8]) -> bool
@@ -22,7 +22,7 @@ pub fn opens(w: &[u8], t: &[u8]) -> bool
     true
 }
 
-// How many line feeds there are, an octet being one more.
+// How many line feeds there are with one octet more.
 fn count(k: usize, o: u8) -> usize
     requires { ⌜ k < 18446744073709551615 ⌝ }
     ensures { λ r. ⌜ r ≡ counted k o ⌝ }

@@ -1,5 +1,5 @@
 // The C interface: each operation as a function that a program in C calls, declared in include/refdesk.h.
-// Promises: the word that is answered, and every element of lent memory afterwards, are those of 01's definitions, for every input; a refusal writes nothing.
+// Promises: the word that is answered, and every element of lent memory afterwards, are those of the definitions of 01 and 02, for every input; a refusal writes nothing.
 // Stands on reader, arrays, views, desk, visitors, sheet and rebuild, which it knows by their contracts.
 ghost use mathlib.Core.Path.{_≡_};
 ghost use lib.ListN.{length};
@@ -12,7 +12,7 @@ ghost use Rattle.scope.specs.Views.{viewOf, chooseOf};
 ghost use Rattle.scope.specs.Desk.{editOf};
 ghost use Rattle.scope.specs.Visitors.{copyOf};
 ghost use Rattle.guess.specs.Guess.{rebuildOf};
-ghost use Rattle.interface.specs.Packed.{wordOf, Fit, besideWord, answerWord, sideWord, viewWord, choiceWord, Hands, Rebuilds};
+ghost use Rattle.interface.specs.Packed.{wordOf, Fit, besideWord, answerWord, sideWord, viewWord, choiceWord, Hands, HandsRebuilt};
 ghost use Rattle.interface.specs.Arrays.{Fills, writeArray};
 use layout::Answer;
 use layout::View;
@@ -140,7 +140,7 @@ pub extern "C" fn ref_sheet(input: &[u8], out: &mut [u8]) -> u64
 // The field whose sheet a text is, into the front of the output, and its category.
 #[no_mangle]
 pub extern "C" fn ref_rebuild(text: &[u8], out: &mut [u8]) -> u64
-    ensures { λ r. ⌜ Rebuilds (rebuildOf (now (text .entry)) (length (now (out .entry)))) (now (out .entry)) r (now (out .exit)) ⌝ }
+    ensures { λ r. ⌜ HandsRebuilt (rebuildOf (now (text .entry)) (length (now (out .entry)))) (now (out .entry)) r (now (out .exit)) ⌝ }
 {
     let given = rebuild::rebuild(text, &mut *out);
     let answer = given.answer;

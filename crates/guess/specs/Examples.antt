@@ -22,7 +22,7 @@ use Rattle.scope.specs.Sheet.{keyLine, digitsOf, decimal, signedDecimal, number
 use Rattle.text.specs.Decimals.{valueFrom, valueOf, isDigit}
 use Rattle.text.specs.Laws.Decimals.{areDigits}
 use Rattle.words.specs.Numbers.{leads, goesOn, isNumber, numberIn, isSigned, signedValue, signedIn}
-use Rattle.guess.specs.Fits.{beforeOctet, behindOctet, behindFeeds}
+use Rattle.guess.specs.Lines.{beforeOctet, behindOctet, behindFeeds}
 use Rattle.guess.specs.Guess.{valueIn, fitsPiece, pieceIn, boundedIn, linesFor, behindKeys, numbersIn, takenLines, leftLines, begins, keyText, headOf, openIn, bit, bits, countIn, behindCount, thereIn, keysIn, itemNumbers, itemIn, itemLeft, rowIn, namesIn, indicatorOf, indicatorIn, categoryOf, categoryIn, lengthIn, contentsIn, guessOf, sheetWith, firstWrong, givenOf, rebuildOf}
 
 -- a text, the room for the octets, and the answer

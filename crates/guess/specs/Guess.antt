@@ -1,5 +1,6 @@
--- The guess: what a text would hold if it were a sheet, taken in one walk over the layout and the text's lines that refuses nothing. Where a line says nothing that could stand there,
--- something that can be printed is taken; the comparison of the guess's own sheet with the text then finds that line.
+-- Reading the sheet back (02, Ask 6) as a definition. The guess is what a text would hold if it were a sheet, taken in one walk over the layout and the text's lines that refuses
+-- nothing. Where a line says nothing that could stand there, something that can be printed is taken; the comparison of the guess's own sheet with the text then finds that line.
+-- None of it has to be believed: the answer is the right one, and the only one (Laws/Rebuilt: `right-answer`, `one-answer`).
 use mathlib.Core.Bool.{Bool, true, false, _&&_}
 use mathlib.Core.List.{List, [], _∷_, _++_}
 use Prim.Native.Nat.{ℕ, suc, _-_}
@@ -16,7 +17,7 @@ use Rattle.papers.specs.Names.{text, Key, hidden, shown, angle, pressure, Named
 use Rattle.papers.specs.Papers.{paperOf}
 use Rattle.scope.specs.Sheet.{keyLine, decimal, partsThere, itemsText, rowText}
 use Rattle.words.specs.Numbers.{signedIn, numberIn}
-use Rattle.guess.specs.Fits.{behindOctet, untilFeed, behindFeed, behindFeeds}
+use Rattle.guess.specs.Lines.{behindOctet, untilFeed, behindFeed, behindFeeds}
 
 -- ---- a line's value: behind its first `=`
 
@@ -199,14 +200,17 @@ guessOf t = contentsIn (categoryIn t) (behindFeeds 2 t)
 
 -- ---- the sheet of contents, with a value of `len` set beside them
 
-unfoldable pub sheetWith : ℕ → ℕ → Contents → List ℕ
-sheetWith cat len r =
-    keyLine (text "cat") (decimal cat)
-    ++ (keyLine (text "len") (decimal len)
-    ++ (keyLine (text "items") (itemsText [] (flags (r .0)) (namesOf cat))
-    ++ (rowText (flags (r .0)) (paperOf cat) (namesOf cat) (r .1) ++ keyLine (text "end") (text "ok"))))
+-- from line 3 on
+unfoldable pub behindLen : ℕ → Contents → List ℕ
+behindLen cat r =
+    keyLine (text "items") (itemsText [] (flags (r .0)) (namesOf cat))
+    ++ (rowText (flags (r .0)) (paperOf cat) (namesOf cat) (r .1) ++ keyLine (text "end") (text "ok"))
 
--- the line, from 1, of the first octet in which two texts differ, one of them being at its end or not; 0 if they are the same. k lines, from 1, begin before
+unfoldable pub sheetWith : ℕ → ℕ → Contents → List ℕ
+unfolding behindLen
+sheetWith cat len r = keyLine (text "cat") (decimal cat) ++ (keyLine (text "len") (decimal len) ++ behindLen cat r)
+
+-- the line of the first octet in which two texts differ, one of them being at its end or not; 0 if they are the same. k is the number of the line that stands here
 unfoldable pub firstWrong : ℕ → List ℕ → List ℕ → ℕ
 firstWrong k [] [] = 0
 firstWrong k [] (y ∷ t) = k

@@ -1,14 +1,5 @@
--- Reading the sheet back: lines and how far texts agree; the guess; its laws level by level; the answer.
-pub mod Fits
+-- Reading the sheet back: the lines of a text, the guess and the answer, texts computed from it; what follows from them.
+pub mod Lines
 pub mod Guess
-pub mod Numbers
-pub mod Groups
-pub mod Okay
-pub mod Flags
-pub mod Items
-pub mod Row
-pub mod Papers
-pub mod Whole
-pub mod Wrong
-pub mod Rebuilt
 pub mod Examples
+pub mod Laws

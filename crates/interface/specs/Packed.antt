@@ -53,6 +53,6 @@ pub record Hands (o : Outcome (List ℕ)) (out : List ℕ) (w : ℕ) (out′ : L
   pub output : out′ ≡ after o out
 
 -- and one that rebuilds a field
-pub record Rebuilds (o : Outcome (ℕ × List ℕ)) (out : List ℕ) (w : ℕ) (out′ : List ℕ) : Type 0 where
+pub record HandsRebuilt (o : Outcome (ℕ × List ℕ)) (out : List ℕ) (w : ℕ) (out′ : List ℕ) : Type 0 where
   pub word : w ≡ rebuiltWord o
   pub output : out′ ≡ after (octetsGiven o) out

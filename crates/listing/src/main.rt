@@ -1,7 +1,7 @@
 // The program of 01 ('The sheet'): reads one category octet and a field from standard input, at most 256 octets, and writes their sheet to
 // standard output. A read or a write that fails ends it, with a line on standard error.
 // Promises: what it hands to be written is the sheet of what it was handed, to the octet; what is read and written nothing can promise.
-// Stands on sheet alone.
+// Stands on sheet, and on inputs for what is read.
 ghost use mathlib.Core.Path.{_≡_};
 ghost use Prim.Native.Nat.{_≤_};
 ghost use lib.ListN.{length, take};

@@ -1,7 +1,8 @@
 // Rebuilds the octets of a field from its sheet (02, Ask 6): what the text would hold if it were a sheet is written, that field's own sheet is printed, and the
 // two texts are compared.
 // Promises: `rebuild` gives the category and the octets of exactly the sheets of accepted fields, and of every other text the line at which no sheet could still
-// agree; a refusal has category 0 and writes nothing. Stands on taken for what the text holds, on writer and sheet, on compare, and on outputs.
+// agree; a refusal has category 0 and writes nothing. Stands on taken for what the text holds, on writer, sheet and text for what is printed,
+// on walk and compare for the two texts, and on outputs.
 ghost use mathlib.Core.Path.{_≡_};
 ghost use mathlib.Core.List.{_∷_};
 ghost use Prim.Native.Nat.{ℕ};
@@ -52,7 +53,7 @@ fn octets_in(answer: Answer) -> usize
     }
 }
 
-// The first line, from 1, in which a text differs from the sheet of a field with another value of `len`; 0 if it does not.
+// The first line, from 1, in which a text differs from the sheet of a field, with len for the value of its `len`; 0 if it does not.
 fn wrong(cat: u8, len: u64, field: &[u8], text: &[u8]) -> usize
     ensures { λ w. ⌜ ((n : ℕ) (r : Contents) → sheetOf (cat ∷ now (field .entry)) ≡ sheetWith cat n r → w ≡ firstWrong 1 (sheetWith cat len r) (now (text .entry))) ⌝ }
 {

@@ -52,16 +52,16 @@ leftText (Accepted n) out = text "ok" ++ nextOctets (take n out)
 leftText (Refused n p) out = refusalText n p
 
 -- `ok CAT OCTETS`
-unfoldable pub rebuiltText : Outcome (ℕ × List ℕ) → List ℕ
+unfoldable pub givenText : Outcome (ℕ × List ℕ) → List ℕ
 unfolding refusalText next nextOctets
-rebuiltText (accepted x) = text "ok" ++ (next (x .0) ++ nextOctets (x .1))
-rebuiltText (refused n p) = refusalText n p
+givenText (accepted x) = text "ok" ++ (next (x .0) ++ nextOctets (x .1))
+givenText (refused n p) = refusalText n p
 
 -- of the category, the answer and the output that it left
-unfoldable pub givenText : ℕ → Answer → List ℕ → List ℕ
+unfoldable pub rebuiltText : ℕ → Answer → List ℕ → List ℕ
 unfolding refusalText next nextOctets
-givenText cat (Accepted n) out = text "ok" ++ (next cat ++ nextOctets (take n out))
-givenText cat (Refused n p) out = refusalText n p
+rebuiltText cat (Accepted n) out = text "ok" ++ (next cat ++ nextOctets (take n out))
+rebuiltText cat (Refused n p) out = refusalText n p
 
 -- `ok START LENGTH OCTETS`
 unfoldable pub shownText : ℕ → ℕ → List ℕ → List ℕ

@@ -3,7 +3,7 @@
 ghost use mathlib.Core.Path.{_≡_};
 ghost use Rattle.papers.specs.Names.{text};
 ghost use Rattle.text.specs.Typing.{Types};
-ghost use Rattle.replies.specs.Texts.{next, nextSigned, nextOctets, badRequest, refusalText, leftText, givenText, shownText, viewText, choiceText, wordsText, recordText, readingText, inLine, lineOctet, sheetText};
+ghost use Rattle.replies.specs.Texts.{next, nextSigned, nextOctets, badRequest, refusalText, leftText, rebuiltText, shownText, viewText, choiceText, wordsText, recordText, readingText, inLine, lineOctet, sheetText};
 use layout::Answer;
 use layout::Choice;
 use layout::Reading;
@@ -69,15 +69,15 @@ pub fn left(answer: Answer, out: &[u8], buf: &mut [u8; 4096]) -> usize
     }
 }
 
-// The same with the category of the field that it left.
+// The same with the category in front of the octets.
 pub fn rebuilt_text(cat: u8, answer: Answer, out: &[u8], buf: &mut [u8; 4096]) -> usize
-    ensures { λ r. ⌜ Types (givenText cat answer (now (out .entry))) (now (buf .entry)) 0 (now (buf .exit)) r ⌝ }
+    ensures { λ r. ⌜ Types (rebuiltText cat answer (now (out .entry))) (now (buf .entry)) 0 (now (buf .exit)) r ⌝ }
 {
     match answer {
         Answer::Accepted(n) => {
-            let category = ok(&mut *buf);
-            let at = next(cat as u64, category, &mut *buf);
-            next_octets(leaves::front(out, n), at, &mut *buf)
+            let second = ok(&mut *buf);
+            let third = next(cat as u64, second, &mut *buf);
+            next_octets(leaves::front(out, n), third, &mut *buf)
         }
         Answer::Refused(no, line) => refusal(no, line, &mut *buf),
     }

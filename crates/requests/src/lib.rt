@@ -14,7 +14,7 @@ ghost use Rattle.scope.specs.Visitors.{copyOf};
 ghost use Rattle.scope.specs.Writing.{writeOf};
 ghost use Rattle.text.specs.Typing.{Types};
 ghost use Rattle.guess.specs.Guess.{rebuildOf};
-ghost use Rattle.replies.specs.Texts.{outputText, rebuiltText};
+ghost use Rattle.replies.specs.Texts.{outputText, givenText};
 ghost use Rattle.answers.specs.Answers.{viewed, chosen, listed, readAnswer, writeAnswer, sheetAnswer, viewAnswer, chooseAnswer, removeAnswer, replaceAnswer, copyAnswer, rebuildAnswer, asked, answerOf};
 ghost use Rattle.requests.specs.Laws.Requests.{wordIn, wordsFrom};
 use layout::Answer;
@@ -89,7 +89,7 @@ fn copied(cat: u8, field: &[u8], withheld: u8, out: &mut [u8], buf: &mut [u8; 40
 }
 
 fn rebuilt(text: &[u8], out: &mut [u8], buf: &mut [u8; 4096]) -> usize
-    ensures { λ r. ⌜ Types (rebuiltText (rebuildOf (now (text .entry)) (length (now (out .entry))))) (now (buf .entry)) 0 (now (buf .exit)) r ⌝ }
+    ensures { λ r. ⌜ Types (givenText (rebuildOf (now (text .entry)) (length (now (out .entry))))) (now (buf .entry)) 0 (now (buf .exit)) r ⌝ }
 {
     let given = rebuild::rebuild(text, &mut *out);
     let answer = given.answer;

@@ -8,7 +8,7 @@ use Rattle.papers.specs.Names.{text}
 use Rattle.papers.specs.Papers.{paperOf}
 use Rattle.layout.specs.declared.Record.{Record}
 use Rattle.layout.specs.Record.{flatten}
-use Rattle.guess.specs.Fits.{behindOctet, behindFeed}
+use Rattle.guess.specs.Lines.{behindOctet, behindFeed}
 use Rattle.guess.specs.Guess.{boundedIn, categoryIn, guessOf}
 
 -- the parts of a chain of at most so many: from their line, where there is one

@@ -7,8 +7,8 @@ use lib.IntN.{ℤ}
 use Rattle.codec.specs.Pick.{pick}
 use Rattle.codec.specs.Line.{Piece, spare, num}
 use Rattle.lengths.specs.Lines.{lineAt}
-use Rattle.walk.specs.Ends.{endsRight}
-use Rattle.guess.specs.Fits.{behindFeeds}
+use Rattle.walk.specs.Ranges.{endsRight}
+use Rattle.guess.specs.Lines.{behindFeeds}
 use Rattle.guess.specs.Guess.{pieceIn, begins, bit}
 use Rattle.taken.specs.Tables.{stepAt, headAt}
 

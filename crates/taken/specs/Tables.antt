@@ -33,15 +33,15 @@ stepAt b = stepOf (getD groups b [])
 
 -- ---- a subfield is there if the text begins with its first key; what is no subfield has none to begin with
 
-unfoldable pub itemHeads : Item → Named → List (List ℕ)
-itemHeads (chained p qs ss) nm = replicate (length (p ∷ qs)) [] ++ map headOf (drop (length (p ∷ qs)) (nm .keys))
-itemHeads (single l) nm = [] ∷ []
+unfoldable pub lineHeads : Item → Named → List (List ℕ)
+lineHeads (chained p qs ss) nm = replicate (length (p ∷ qs)) [] ++ map headOf (drop (length (p ∷ qs)) (nm .keys))
+lineHeads (single l) nm = [] ∷ []
 
 unfoldable pub headsIn : List Item → List Named → List (List ℕ)
-unfolding itemHeads
+unfolding lineHeads
 headsIn [] nms = []
 headsIn (it ∷ its) [] = []
-headsIn (it ∷ its) (nm ∷ nms) = itemHeads it nm ++ headsIn its nms
+headsIn (it ∷ its) (nm ∷ nms) = lineHeads it nm ++ headsIn its nms
 
 unfoldable pub heads : List (List ℕ)
 unfolding headsIn items named

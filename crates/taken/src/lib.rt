@@ -18,7 +18,7 @@ ghost use Rattle.shapes.specs.Shapes.{itemAt, linesFrom, inTurn};
 ghost use Rattle.spots.specs.Spots.{spotAt, rowOk, itemsFrom};
 ghost use Rattle.sheet.specs.Items.{namedAt};
 ghost use Rattle.sheet.specs.Rows.{namesFrom};
-ghost use Rattle.walk.specs.Ends.{endsRight};
+ghost use Rattle.walk.specs.Ranges.{endsRight};
 ghost use Rattle.guess.specs.Guess.{pieceIn, itemIn, itemLeft, rowIn, namesIn, categoryIn};
 ghost use Rattle.taken.specs.Tables.{stepAt};
 ghost use Rattle.taken.specs.Lines.{takenBy, behindBy, endsOf, takenAt, behindAt, thereAt, takenFrom, leftFrom, flagsFrom};
@@ -55,16 +55,16 @@ fn piece(t: &[u8], kind: u64, w: u64) -> i32
     ensures { λ r. ⌜ r ≡ pieceIn (kindOf kind) w (now (t .entry)) ⌝ }
 {
     if kind < 2 {
-        return walk::ended(t, 0, top(w));
+        return walk::ranged(t, 0, top(w));
     }
     if kind == 2 {
-        let high = top(w - 1);
-        return walk::ended(t, !high, high);
+        let high = top(w - 1); // with a sign
+        return walk::ranged(t, !high, high);
     }
     if kind == 3 {
-        return walk::ended(t, -4194304, 4194304);
+        return walk::ranged(t, -4194304, 4194304); // a latitude: 90 degrees
     }
-    walk::ended(t, -40, 8191)
+    walk::ranged(t, -40, 8191) // GA: -1,000 ft
 }
 
 fn put(numbers: &mut Numbers, at: usize, z: i32)

@@ -2,7 +2,7 @@
 // output. Of any other text it writes nothing there, and on standard error the refusal: `refused=18` and `line=`, the line at which it is no sheet. A read or a
 // write that fails ends it, with a line on standard error.
 // Promises: what it hands to be written is the category and the field of the text that it was handed, to the octet, or the refusal; what is read and written
-// nothing can promise. Stands on rebuild and, for the refusal, on text.
+// nothing can promise. Stands on rebuild, on text for the refusal, and on inputs for what is read.
 ghost use mathlib.Core.Path.{_≡_};
 ghost use lib.ListN.{length};
 ghost use Rattle.text.specs.Typing.{Types};

@@ -1,12 +1,12 @@
 // The lines of a text: the first line and what follows, its words, and its value as a number.
-// Promises: each is one equation of guess's definitions, for every text. Stands on words for the numbers.
+// Promises: each is one equation, for every text: of guess's definitions where they have it. Stands on words for the numbers.
 ghost use mathlib.Core.Path.{_≡_};
 ghost use mathlib.Core.List.{[]};
 ghost use lib.ListN.{getD, drop};
-ghost use Rattle.guess.specs.Fits.{beforeOctet, behindOctet, untilFeed, behindFeed, behindFeeds};
+ghost use Rattle.guess.specs.Lines.{beforeOctet, behindOctet, untilFeed, behindFeed, behindFeeds};
 ghost use Rattle.guess.specs.Guess.{valueIn, boundedIn};
-ghost use Rattle.walk.specs.Steps.{placeIn, wordsIn};
-ghost use Rattle.walk.specs.Ends.{endedIn};
+ghost use Rattle.walk.specs.Lines.{placeIn, wordsIn};
+ghost use Rattle.walk.specs.Ranges.{rangedIn};
 
 // The place of the first octet x, or the length.
 fn find(s: &[u8], x: u8) -> usize
@@ -87,7 +87,7 @@ pub fn value<'a>(t: &'a [u8]) -> &'a [u8]
     behind(line(t), b'=')
 }
 
-// A plain decimal from lo to hi, else lo.
+// The plain decimal that the first line's value is, if it is one from lo to hi, else lo; and of 32 bits with a sign, else 0.
 pub fn bounded(t: &[u8], lo: u32, hi: u32) -> u64
     ensures { λ r. ⌜ r ≡ boundedIn lo hi (now (t .entry)) ⌝ }
 {
@@ -101,9 +101,8 @@ pub fn bounded(t: &[u8], lo: u32, hi: u32) -> u64
     n
 }
 
-// A plain decimal from lo to hi, else 0.
-pub fn ended(t: &[u8], lo: i32, hi: i32) -> i32
-    ensures { λ r. ⌜ r ≡ endedIn lo hi (now (t .entry)) ⌝ }
+pub fn ranged(t: &[u8], lo: i32, hi: i32) -> i32
+    ensures { λ r. ⌜ r ≡ rangedIn lo hi (now (t .entry)) ⌝ }
 {
     let n = words::whole(value(t));
     if lo <= n {

@@ -39,7 +39,7 @@ use Rattle.longest.specs.Laws.Longest.{sheet-longest}
 use Rattle.words.specs.Numbers.{valueIn}
 use Rattle.words.specs.Laws.Numbers.{value-most}
 use Rattle.guess.specs.Guess.{rebuildOf}
-use Rattle.guess.specs.Rebuilt.{rebuilt-few}
+use Rattle.guess.specs.Laws.Rebuilt.{rebuilt-few}
 use Rattle.hex.specs.Octets.{isOctets, octetOf, octetsOf, octetsIn, listIn}
 use Rattle.protocol.specs.Line.{wordsOf, nth}
 use Rattle.protocol.specs.Forms.{parseOf}
@@ -47,7 +47,7 @@ use Rattle.protocol.specs.Record.{recordIn}
 use Rattle.protocol.specs.declared.Judged.{Judged}
 use Rattle.protocol.specs.declared.Judged.the-variants.{Asks, Wrong}
 use Rattle.replies.specs.Texts.{badRequest, outputText, readingText, choiceText}
-use Rattle.answers.specs.Laws.Texts.{bad-most, refusal-most, view-most, choice-most, read-most, output-most, rebuilt-most, sheet-most}
+use Rattle.answers.specs.Laws.Texts.{bad-most, refusal-most, view-most, choice-most, read-most, output-most, given-most, sheet-most}
 use Rattle.answers.specs.Answers.{listed, readAnswer, writeAnswer, sheetAnswer, viewAnswer, chooseAnswer, removeAnswer, replaceAnswer, copyAnswer, rebuildAnswer, asked, said, answerOf}
 
 -- ---- what an operation puts into an output of at most 300 octets
@@ -213,7 +213,7 @@ module _ (word : ℕ → List ℕ) where
 
   rebuild-answer-most : length (rebuildAnswer word) ≤ 2_000
   unfolding rebuildAnswer
-  rebuild-answer-most = rebuilt-most (rebuildOf (octetsIn (word 1)) (valueIn 300 (word 2))) (rebuilt-few (octetsIn (word 1)) (valueIn 300 (word 2)) .octets)
+  rebuild-answer-most = given-most (rebuildOf (octetsIn (word 1)) (valueIn 300 (word 2))) (rebuilt-few (octetsIn (word 1)) (valueIn 300 (word 2)) .octets)
 
   write-answer-most : (from : ℕ → List (List ℕ)) → length (writeAnswer word from) ≤ 2_000
   unfolding writeAnswer

@@ -18,7 +18,7 @@ use Rattle.scope.specs.Rebuilding.{octetsGiven}
 use Rattle.scope.specs.Sheet.{signedDecimal}
 use Rattle.text.specs.Hex.{pairText, pairsText, hexText}
 use Rattle.text.specs.Laws.Decimals.{decimal-most}
-use Rattle.replies.specs.Texts.{next, nextSigned, nextOctets, badRequest, refusalText, outputText, rebuiltText, shownText, viewText, choiceIn, wordsText, recordText, readIn, lineOctet, sheetText}
+use Rattle.replies.specs.Texts.{next, nextSigned, nextOctets, badRequest, refusalText, outputText, givenText, shownText, viewText, choiceIn, wordsText, recordText, readIn, lineOctet, sheetText}
 
 -- ---- words
 
@@ -91,10 +91,10 @@ unfolding outputText
 output-most (accepted b) h = omega (arith, octets-most b, h b refl)
 output-most (refused n p) h = omega (arith, refusal-most n p)
 
-pub rebuilt-most : (o : Outcome (ℕ × List ℕ)) → lengthOf (answerOf (octetsGiven o)) ≤ LONGEST → length (rebuiltText o) ≤ 2_000
-unfolding rebuiltText octetsGiven answerOf lengthOf
-rebuilt-most (accepted x) h = omega (arith, length-append (next (x .0)) (nextOctets (x .1)), next-most (x .0), octets-most (x .1))
-rebuilt-most (refused n p) h = omega (arith, refusal-most n p)
+pub given-most : (o : Outcome (ℕ × List ℕ)) → lengthOf (answerOf (octetsGiven o)) ≤ LONGEST → length (givenText o) ≤ 2_000
+unfolding givenText octetsGiven answerOf lengthOf
+given-most (accepted x) h = omega (arith, length-append (next (x .0)) (nextOctets (x .1)), next-most (x .0), octets-most (x .1))
+given-most (refused n p) h = omega (arith, refusal-most n p)
 
 pub bad-most : (n : ℕ) → length (badRequest n) ≤ 32
 unfolding badRequest

@@ -5,7 +5,7 @@ use native.Mathlib.Omega.{arith}
 use denote.Ref.{now}
 use lib.ListN.{length, getD, drop}
 use Rattle.guess.specs.Guess.{firstWrong}
-use Rattle.compare.specs.Steps.{counted-most, wrong-end, wrong-more-text, wrong-less-text, wrong-here, wrong-on}
+use Rattle.compare.specs.Laws.Compared.{counted-most, wrong-end, wrong-more-text, wrong-less-text, wrong-here, wrong-on}
 use Rattle.compare.proofs.first_wrong.Statement.{statement}
 use Rattle.compare.proofs.first_wrong.Tie as tie
 

@@ -5,7 +5,7 @@ use native.Mathlib.Omega.{arith}
 use denote.Ref.{now}
 use lib.ListN.{length, drop}
 use Rattle.guess.specs.Guess.{begins}
-use Rattle.compare.specs.Steps.{begins-end, begins-short, begins-other, begins-more}
+use Rattle.compare.specs.Laws.Compared.{begins-end, begins-short, begins-other, begins-more}
 use Rattle.compare.proofs.opens.Statement.{statement}
 use Rattle.compare.proofs.opens.Tie as tie
 

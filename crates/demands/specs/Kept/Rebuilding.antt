@@ -21,10 +21,10 @@ use Rattle.layout.specs.Laws.Answer.{Refused≢Accepted}
 use Rattle.scope.specs.Outputs.{answerOf, after}
 use Rattle.scope.specs.Sheet.{sheetOf}
 use Rattle.scope.specs.Rebuilding.{areLines, categoryGiven, octetsGiven, Right, Refusal, long, line-wrong, length-wrong, no-room}
-use Rattle.guess.specs.Fits.{feeds, feeds-append}
+use Rattle.guess.specs.Laws.Fits.{feeds, feeds-append}
 use Rattle.guess.specs.Guess.{rebuildOf}
-use Rattle.guess.specs.Wrong.{lines-feeds}
-use Rattle.guess.specs.Rebuilt as rebuilt
+use Rattle.guess.specs.Laws.Wrong.{lines-feeds}
+use Rattle.guess.specs.Laws.Rebuilt as rebuilt
 use Rattle.demands.specs.Terms.{IsField, Fault, handedOut}
 use Rattle.demands.specs.Leftovers.{Nowhere}
 use Rattle.demands.specs.Rebuilding.{refusedAt, Printed, Agrees, IsSheet, Kind, too-long, a-sheet, but-length, wrong-line, Rebuilding}

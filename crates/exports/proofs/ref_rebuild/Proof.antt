@@ -4,7 +4,7 @@ use native.Mathlib.Omega.{arith}
 use borrow.Author.Needs.{needs}
 use denote.Ref.{now}
 use lib.ListN.{length}
-use Rattle.guess.specs.Rebuilt.{rebuilt-few}
+use Rattle.guess.specs.Laws.Rebuilt.{rebuilt-few}
 use Rattle.interface.specs.Packed.{besideWord, rebuiltWord}
 use Rattle.interface.specs.Laws.Fits.{FitAnswer}
 use Rattle.exports.proofs.ref_rebuild.Statement.{statement}

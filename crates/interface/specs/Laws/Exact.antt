@@ -28,7 +28,7 @@ use Rattle.scope.specs.Views.{viewOf, chooseOf}
 use Rattle.scope.specs.Desk.{editOf}
 use Rattle.scope.specs.Rebuilding.{categoryGiven, octetsGiven}
 use Rattle.guess.specs.Guess.{rebuildOf}
-use Rattle.guess.specs.Rebuilt.{rebuilt-few}
+use Rattle.guess.specs.Laws.Rebuilt.{rebuilt-few}
 use Rattle.interface.specs.Packed.{besideWord, answerWord, sideWord, viewWord, choiceWord, rebuiltWord}
 use Rattle.interface.specs.Arrays.{PLACES, arrayOf, fillAnswer, isOctet, areOctets, octetOf, ofArray, writeArray}
 use Rattle.interface.specs.Laws.Packed.{Tells, word-tells}

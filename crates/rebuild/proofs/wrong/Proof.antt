@@ -15,7 +15,7 @@ use Rattle.codec.specs.Laws.Codec.{octets-all}
 use Rattle.scope.specs.Sheet.{sheetOf}
 use Rattle.sheet.specs.Laws.Whole.{Standing, sheet-stands}
 use Rattle.text.specs.Laws.Typing.{types-behind, types-within}
-use Rattle.guess.specs.Fits.{behindFeeds}
+use Rattle.guess.specs.Lines.{behindFeeds}
 use Rattle.rebuild.specs.Laws.Rebuilds.{wrong-is}
 use Rattle.rebuild.proofs.wrong.Statement.{statement}
 use Rattle.rebuild.proofs.wrong.Tie as tie

@@ -32,11 +32,12 @@ use Rattle.text.specs.Typing.{Types}
 use Rattle.text.specs.Laws.Typing.{types-as, types-behind, typed-front}
 use Rattle.text.specs.Laws.Decimals.{decimal-most}
 use Rattle.longest.specs.Laws.Longest.{sheet-longest}
-use Rattle.guess.specs.Fits.{without, behindFeeds}
+use Rattle.guess.specs.Lines.{behindFeeds}
+use Rattle.guess.specs.Laws.Fits.{without}
 use Rattle.guess.specs.Guess.{categoryIn, lengthIn, guessOf, sheetWith, firstWrong, givenOf, rebuildOf}
-use Rattle.guess.specs.Numbers.{decimal-clean}
-use Rattle.guess.specs.Whole.{category-in, guess-okay}
-use Rattle.guess.specs.Rebuilt.{written-is, written-accepted, written-sheet, too-long, line-length, behind-line, guess-short}
+use Rattle.guess.specs.Laws.Numbers.{decimal-clean}
+use Rattle.guess.specs.Laws.Whole.{category-in, guess-okay}
+use Rattle.guess.specs.Laws.Rebuilt.{written-is, written-accepted, written-sheet, too-long, line-length, behind-line, guess-short}
 use Rattle.taken.specs.Items.{recordIn}
 use Rattle.rebuild.specs.declared.Rebuilt.{Rebuilt}
 use Rattle.rebuild.specs.Rebuilds.{Rebuilds, givenBy}

@@ -18,7 +18,7 @@ use Rattle.scope.specs.Outputs.{answerOf, after, Leaves}
 use Rattle.scope.specs.Rebuilding.{categoryGiven, octetsGiven}
 use Rattle.text.specs.Typing.{Types}
 use Rattle.text.specs.Laws.Typing.{types-none, types-behind}
-use Rattle.replies.specs.Texts.{next, nextOctets, refusalText, outputText, leftText, rebuiltText, givenText, shownText, viewText, choiceIn, choiceText, wordsText, recordText, readIn, readingText, inLine, lineOctet, sheetText}
+use Rattle.replies.specs.Texts.{next, nextOctets, refusalText, outputText, leftText, givenText, rebuiltText, shownText, viewText, choiceIn, choiceText, wordsText, recordText, readIn, readingText, inLine, lineOctet, sheetText}
 
 -- ---- the ways out of `left`
 
@@ -44,24 +44,24 @@ types-left {o} {out} p {l} {m} {at} {last} t = subst (λ x. Types x l at m last)
 
 -- ---- of `rebuilt_text`
 
-pub given-ok : (cat : ℕ) {a : Answer} {n : ℕ} → a ≡ Accepted n → (out : List ℕ) {s : List ℕ} → s ≡ take n out → {l m q u : List ℕ} {at category after last : ℕ}
-    → Types (text "ok") l at m category → Types (next cat) m category q after → Types (nextOctets s) q after u last → Types (givenText cat a out) l at u last
-unfolding givenText
-given-ok cat ea out es x y z = rw (ea, ← es) (types-behind x (types-behind y z))
+pub rebuilt-ok : (cat : ℕ) {a : Answer} {n : ℕ} → a ≡ Accepted n → (out : List ℕ) {s : List ℕ} → s ≡ take n out → {l m q u : List ℕ} {at category after last : ℕ}
+    → Types (text "ok") l at m category → Types (next cat) m category q after → Types (nextOctets s) q after u last → Types (rebuiltText cat a out) l at u last
+unfolding rebuiltText
+rebuilt-ok cat ea out es x y z = rw (ea, ← es) (types-behind x (types-behind y z))
 
-pub given-refused : (cat : ℕ) {a : Answer} {n p : ℕ} → a ≡ Refused n p → (out : List ℕ) → {l m : List ℕ} {at last : ℕ}
-    → Types (refusalText n p) l at m last → Types (givenText cat a out) l at m last
-unfolding givenText
-given-refused cat ea out x = rw ea x
+pub rebuilt-refused : (cat : ℕ) {a : Answer} {n p : ℕ} → a ≡ Refused n p → (out : List ℕ) → {l m : List ℕ} {at last : ℕ}
+    → Types (refusalText n p) l at m last → Types (rebuiltText cat a out) l at m last
+unfolding rebuiltText
+rebuilt-refused cat ea out x = rw ea x
 
-given-outcome : (o : Outcome (ℕ × List ℕ)) (out : List ℕ) {cat : ℕ} {a : Answer} {out′ : List ℕ} → cat ≡ categoryGiven o → Leaves (octetsGiven o) out a out′ → givenText cat a out′ ≡ rebuiltText o
-unfolding givenText rebuiltText categoryGiven octetsGiven answerOf after
-given-outcome (accepted x) out ec p = rw (p .answer, p .output, ec) (ap (λ t. text "ok" ++ (next (x .0) ++ nextOctets t)) (take-append-seam (x .1) (drop (length (x .1)) out)))
-given-outcome (refused n q) out ec p = rw (p .answer) refl
+rebuilt-outcome : (o : Outcome (ℕ × List ℕ)) (out : List ℕ) {cat : ℕ} {a : Answer} {out′ : List ℕ} → cat ≡ categoryGiven o → Leaves (octetsGiven o) out a out′ → rebuiltText cat a out′ ≡ givenText o
+unfolding rebuiltText givenText categoryGiven octetsGiven answerOf after
+rebuilt-outcome (accepted x) out ec p = rw (p .answer, p .output, ec) (ap (λ t. text "ok" ++ (next (x .0) ++ nextOctets t)) (take-append-seam (x .1) (drop (length (x .1)) out)))
+rebuilt-outcome (refused n q) out ec p = rw (p .answer) refl
 
 pub types-given : (o : Outcome (ℕ × List ℕ)) {out : List ℕ} {cat : ℕ} {a : Answer} {out′ : List ℕ} → cat ≡ categoryGiven o → Leaves (octetsGiven o) out a out′ → {l m : List ℕ} {at last : ℕ}
-    → Types (givenText cat a out′) l at m last → Types (rebuiltText o) l at m last
-types-given o {out} ec p {l} {m} {at} {last} t = subst (λ x. Types x l at m last) (given-outcome o out ec p) t
+    → Types (rebuiltText cat a out′) l at m last → Types (givenText o) l at m last
+types-given o {out} ec p {l} {m} {at} {last} t = subst (λ x. Types x l at m last) (rebuilt-outcome o out ec p) t
 
 -- ---- of `view_text`
 

@@ -34,7 +34,7 @@ use Rattle.protocol.specs.Laws.Line.{words-placed, words-from}
 use Rattle.protocol.specs.Laws.Record.{record-short}
 use Rattle.protocol.specs.declared.Judged.the-variants.{Asks, Wrong}
 use Rattle.protocol.specs.declared.Parsed.{Parsed}
-use Rattle.replies.specs.Texts.{badRequest, refusalText, outputText, rebuiltText, readingText, sheetText}
+use Rattle.replies.specs.Texts.{badRequest, refusalText, outputText, givenText, readingText, sheetText}
 use Rattle.answers.specs.Answers.{listed, viewed, chosen, readAnswer, writeAnswer, sheetAnswer, viewAnswer, chooseAnswer, removeAnswer, replaceAnswer, copyAnswer, rebuildAnswer, asked, said, answerOf}
 
 -- the word of a line that starts at a place of the parser's, and all words from it on
@@ -99,7 +99,7 @@ module _ (word : ℕ → List ℕ) {l m : List ℕ} {last : ℕ} where
       unfolding replaceAnswer
       replace-said eg er x = rw (← ec, ← ef, ← el, ← ei, ← eg, ← er) x
 
-  pub rebuild-said : {t : List ℕ} {room : ℕ} → t ≡ octetsIn (word 1) → room ≡ valueIn 300 (word 2) → Types (rebuiltText (rebuildOf t room)) l 0 m last → Types (rebuildAnswer word) l 0 m last
+  pub rebuild-said : {t : List ℕ} {room : ℕ} → t ≡ octetsIn (word 1) → room ≡ valueIn 300 (word 2) → Types (givenText (rebuildOf t room)) l 0 m last → Types (rebuildAnswer word) l 0 m last
   unfolding rebuildAnswer
   rebuild-said et er x = rw (← et, ← er) x
 

@@ -12,7 +12,7 @@ use mir.Facts.{fits-of-lt}
 use Rattle.papers.specs.Names.{text, names048, names021, names007}
 use Rattle.spots.specs.declared.Spot.{Spot}
 use Rattle.sheet.specs.Items.{named, namedAt}
-use Rattle.walk.specs.Steps.{wordsIn}
+use Rattle.walk.specs.Lines.{wordsIn}
 use Rattle.taken.specs.Laws.Tables.{nameOf, name-word}
 use Rattle.taken.specs.Laws.Names.{names-none, names-there, names-absent, comma-other, name-other}
 use borrow.Fn.Kinds.{In}

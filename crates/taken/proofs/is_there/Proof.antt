@@ -8,9 +8,9 @@ use Rattle.papers.specs.Cat007.{cat007}
 use Rattle.papers.specs.Names.{text, names048, names021, names007}
 use Rattle.lengths.specs.Lines.{items}
 use Rattle.sheet.specs.Items.{named}
-use Rattle.walk.specs.Steps.{wordsIn}
+use Rattle.walk.specs.Lines.{wordsIn}
 use Rattle.guess.specs.Guess.{keyText, headOf}
-use Rattle.taken.specs.Tables.{heads, headsIn, itemHeads}
+use Rattle.taken.specs.Tables.{heads, headsIn, lineHeads}
 use Rattle.taken.specs.Laws.Tables.{head-word}
 use Rattle.taken.specs.Laws.Lines.{there-none, there-some}
 use Rattle.taken.proofs.is_there.Statement.{statement}
@@ -26,7 +26,7 @@ opens-requires : tie.Need-opens-requires
 opens-requires c κs = search needs
 
 heads-are : wordsIn (text " MD5.SUM.M5= MD5.PMN.PIN= MD5.POS.LAT= MD5.GA.RES= MD5.EM1.V= MD5.TOS= MD5.XP.XP=   M5N.SUM.M5= M5N.PMN.PIN= M5N.POS.LAT= M5N.GA.RES= M5N.EM1.V= M5N.TOS= M5N.XP.XP= M5N.FOM=   RPC.SCO= RPC.SCR= RPC.RW= RPC.AR=                MES.SUM.M5= MES.PNO.PIN= MES.EM1.V= MES.XP.XP= MES.FOM= MES.M2.V= ") ≡ heads
-unfolding wordsIn heads headsIn itemHeads headOf keyText items cat048 cat021 cat007 named names048 names021 names007
+unfolding wordsIn heads headsIn lineHeads headOf keyText items cat048 cat021 cat007 named names048 names021 names007
 heads-are = refl
 
 returns-2 : tie.Need-returns-2

@@ -6,7 +6,7 @@ use Rattle.codec.specs.Laws.Tests.{holds}
 use Rattle.papers.specs.Papers.{known}
 use Rattle.spots.specs.Laws.Spots.{row-asks}
 use Rattle.guess.specs.Guess.{categoryIn}
-use Rattle.guess.specs.Whole.{category-in}
+use Rattle.guess.specs.Laws.Whole.{category-in}
 use Rattle.taken.specs.Laws.Record.{record-is}
 use Rattle.taken.proofs.record.Statement.{statement}
 use Rattle.taken.proofs.record.Tie as tie

@@ -27,10 +27,10 @@ use Rattle.shapes.specs.declared.Shape.{Shape}
 use Rattle.shapes.specs.Laws.Runs.{lines-on}
 use Rattle.shapes.specs.Laws.Shapes.{Shaped, shaped-well, shape-single, shape-chained}
 use Rattle.sheet.specs.Items.{nobody, named, namedAt}
-use Rattle.guess.specs.Fits.{behindOctet, behindFeed}
+use Rattle.guess.specs.Lines.{behindOctet, behindFeed}
 use Rattle.guess.specs.Guess.{linesFor, boundedIn, keyText, headOf, takenLines, leftLines, openIn, bits, countIn, behindCount, thereIn, keysIn, itemNumbers, itemIn, itemLeft}
-use Rattle.guess.specs.Numbers.{bounded-in}
-use Rattle.taken.specs.Tables.{stepAt, headAt, stepOf, groups, groupsIn, heads, headsIn, itemHeads}
+use Rattle.guess.specs.Laws.Numbers.{bounded-in}
+use Rattle.taken.specs.Tables.{stepAt, headAt, stepOf, groups, groupsIn, heads, headsIn, lineHeads}
 use Rattle.taken.specs.Lines.{opensFrom, takenFrom, leftFrom, flagsFrom}
 use Rattle.taken.specs.Items.{partsIn, behindParts}
 use Rattle.taken.specs.Laws.Numbers.{steady}
@@ -54,7 +54,7 @@ unfoldable right : Shape → Named → Bool
 right s nm = pick (eqb (s .1) 0) (alone (s .0) 1 nm) (pick (eqb (s .2) 0) (alone (s .0) (s .1) nm) (under (s .0) (s .1) (s .2) nm))
 
 all-right : (k : ℕ) → T (right (shapeAt k) (namedAt k))
-unfolding right alone under flagsBefore plainFrom steadyFrom keyedFrom steady stepAt headAt stepOf groups groupsIn heads headsIn itemHeads headOf keyText linesFor count slotsOf namedAt named names048 names021 names007 linesFrom shapeAt shapes shapesFrom shapeOf placedAt placed placedIn placedFrom linesOf items cat048 cat021 cat007
+unfolding right alone under flagsBefore plainFrom steadyFrom keyedFrom steady stepAt headAt stepOf groups groupsIn heads headsIn lineHeads headOf keyText linesFor count slotsOf namedAt named names048 names021 names007 linesFrom shapeAt shapes shapesFrom shapeOf placedAt placed placedIn placedFrom linesOf items cat048 cat021 cat007
 all-right k = go (ltb k 14) refl
   where
     go : (b : Bool) → ltb k 14 ≡ b → T (right (shapeAt k) (namedAt k))

@@ -17,7 +17,7 @@ use Rattle.codec.specs.Laws.Change.{flags-set}
 use Rattle.papers.specs.Names.{text}
 use Rattle.sheet.specs.Rows.{namedOn, namesFrom}
 use Rattle.sheet.specs.Laws.Rows.{names-on}
-use Rattle.guess.specs.Fits.{untilFeed}
+use Rattle.guess.specs.Lines.{untilFeed}
 use Rattle.guess.specs.Guess.{begins, namesIn, categoryOf, categoryIn}
 use Rattle.taken.specs.Items.{commaIn}
 

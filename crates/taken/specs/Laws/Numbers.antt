@@ -25,10 +25,11 @@ use Rattle.lengths.specs.Laws.Lines.{every-at}
 use Rattle.lengths.specs.Laws.Formats.{format-pieces, format-first, more-spare, more-num}
 use Rattle.longest.specs.Laws.Ranges.{lowest, highest}
 use Rattle.words.specs.Numbers.{signedIn, isSigned, isNumber, leads}
-use Rattle.guess.specs.Fits.{beforeOctet, behindOctet, behindFeeds}
+use Rattle.guess.specs.Lines.{beforeOctet, behindOctet, behindFeeds}
 use Rattle.guess.specs.Guess.{valueIn, fitsPiece, pieceIn, linesFor, behindKeys, numbersIn}
-use Rattle.guess.specs.Numbers.{small}
-use Rattle.walk.specs.Ends.{endsRight, twice, endedIn, piece-ended}
+use Rattle.guess.specs.Laws.Numbers.{small}
+use Rattle.walk.specs.Ranges.{endsRight, rangedIn}
+use Rattle.walk.specs.Laws.Ranges.{twice, piece-ranged}
 use Rattle.taken.specs.Tables.{stepAt}
 use Rattle.taken.specs.Lines.{takenBy, behindBy, endsOf, takenAt, behindAt}
 
@@ -53,10 +54,10 @@ pub half-top : (w : ℕ) → 1 ≤ w → 2 ^ (w - 1) - 1 ≡ (2 ^ w - 1) / 2
 half-top w h = omega (arith, twice w h)
 
 -- a number between the ends of its kind
-pub piece-between : (kind w : ℕ) (t : List ℕ) (k : Kind) → kindOf kind ≡ k → w ≤ 24 → T (endsRight (kindOf kind) w) → {lo hi r : ℤ} → lo ≡ lowest k w → hi ≡ highest k w → r ≡ endedIn lo hi t
+pub piece-between : (kind w : ℕ) (t : List ℕ) (k : Kind) → kindOf kind ≡ k → w ≤ 24 → T (endsRight (kindOf kind) w) → {lo hi r : ℤ} → lo ≡ lowest k w → hi ≡ highest k w → r ≡ rangedIn lo hi t
     → r ≡ pieceIn (kindOf kind) w t
 piece-between kind w t k ek h e {lo} {hi} {r} el eh er =
-    er ∙ ap₂ (λ x y. endedIn x y t) el eh ∙ sym (piece-ended k w h (subst (λ j. T (endsRight j w)) ek e) t) ∙ ap (λ j. pieceIn j w t) (sym ek)
+    er ∙ ap₂ (λ x y. rangedIn x y t) el eh ∙ sym (piece-ranged k w h (subst (λ j. T (endsRight j w)) ek e) t) ∙ ap (λ j. pieceIn j w t) (sym ek)
 
 -- ---- the ways out of `numbers`: no piece, a piece without a number, a number
 

@@ -20,11 +20,11 @@ use Rattle.layout.specs.Laws.Record.{length-parts, length-numbers}
 use Rattle.spots.specs.Spots.{spotOf}
 use Rattle.spots.specs.Laws.Spots.{Spots, spots-right}
 use Rattle.sheet.specs.Laws.Whole.{names-right}
-use Rattle.guess.specs.Fits.{behindFeed, behindFeeds}
+use Rattle.guess.specs.Lines.{behindFeed, behindFeeds}
 use Rattle.guess.specs.Guess.{valueIn, rowIn, namesIn, indicatorOf, indicatorIn, categoryIn, contentsIn, guessOf}
-use Rattle.guess.specs.Row.{names-length}
-use Rattle.guess.specs.Papers.{as-many}
-use Rattle.guess.specs.Whole.{category-in, contents-made}
+use Rattle.guess.specs.Laws.Row.{names-length}
+use Rattle.guess.specs.Laws.Papers.{as-many}
+use Rattle.guess.specs.Laws.Whole.{category-in, contents-made}
 use Rattle.taken.specs.Items.{recordIn}
 use Rattle.taken.specs.Laws.Rows.{RowTaken, Row}
 use Rattle.taken.specs.Laws.Names as taken

@@ -11,7 +11,7 @@ use Rattle.codec.specs.Pick.{pick}
 use Rattle.codec.specs.Laws.Tests.{up-to}
 use Rattle.papers.specs.Names.{Named, names048, names021, names007}
 use Rattle.sheet.specs.Items.{nobody, named, namedAt}
-use Rattle.walk.specs.Steps.{wordsIn}
+use Rattle.walk.specs.Lines.{wordsIn}
 use Rattle.guess.specs.Guess.{linesFor}
 use Rattle.taken.specs.Tables.{stepAt, headAt, stepOf, groups, groupsIn, heads}
 

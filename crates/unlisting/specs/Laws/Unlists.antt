@@ -17,7 +17,7 @@ use Rattle.scope.specs.Sheet.{keyLine, decimal}
 use Rattle.text.specs.Typing.{Types}
 use Rattle.text.specs.Laws.Typing.{types-none, types-behind}
 use Rattle.guess.specs.Guess.{rebuildOf}
-use Rattle.guess.specs.Rebuilt.{rebuilt-few}
+use Rattle.guess.specs.Laws.Rebuilt.{rebuilt-few}
 use Rattle.rebuild.specs.declared.Rebuilt.{Rebuilt}
 use Rattle.rebuild.specs.Rebuilds.{Rebuilds}
 use Rattle.unlisting.specs.Unlists.{ROOM, Unlists, refusalLines}

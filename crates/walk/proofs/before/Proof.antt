@@ -5,7 +5,7 @@ use borrow.Author.Needs.{needs}
 use denote.Ref.{now}
 use lib.ListN.{length, take}
 use lib.Seq.{length-take-le}
-use Rattle.walk.specs.Steps.{place-within, before-is}
+use Rattle.walk.specs.Laws.Lines.{place-within, before-is}
 use Rattle.walk.proofs.before.Statement.{statement}
 use Rattle.walk.proofs.before.Tie as tie
 

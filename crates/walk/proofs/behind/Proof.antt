@@ -3,7 +3,7 @@ use mathlib.Core.Path.{ap, _∙_}
 use borrow.Author.Needs.{needs}
 use denote.Ref.{now}
 use lib.ListN.{drop}
-use Rattle.walk.specs.Steps.{behind-is}
+use Rattle.walk.specs.Laws.Lines.{behind-is}
 use Rattle.walk.proofs.behind.Statement.{statement}
 use Rattle.walk.proofs.behind.Tie as tie
 

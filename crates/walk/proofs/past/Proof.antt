@@ -1,7 +1,7 @@
 -- `walk::past` meets its contract. Assumes nothing.
 use borrow.Author.Needs.{needs}
 use denote.Ref.{now}
-use Rattle.walk.specs.Steps.{past-there, past-end}
+use Rattle.walk.specs.Laws.Lines.{past-there, past-end}
 use Rattle.walk.proofs.past.Statement.{statement}
 use Rattle.walk.proofs.past.Tie as tie
 

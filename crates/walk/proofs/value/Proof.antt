@@ -1,7 +1,7 @@
 -- `walk::value` meets its contract: what stands behind the first `=` of the first line. Assumes nothing.
 use mathlib.Core.Path.{ap, _∙_}
 use borrow.Author.Needs.{needs}
-use Rattle.guess.specs.Fits.{behindOctet}
+use Rattle.guess.specs.Lines.{behindOctet}
 use Rattle.guess.specs.Guess.{valueIn}
 use Rattle.walk.proofs.value.Statement.{statement}
 use Rattle.walk.proofs.value.Tie as tie

@@ -22,7 +22,8 @@ use Rattle.scope.specs.Pressure.{senseOf}
 use Rattle.words.specs.Numbers.{signedIn, numberIn}
 use Rattle.words.specs.Laws.Numbers.{signed-value}
 use Rattle.words.specs.Laws.Written.{Signed32, signed-is-number, signed-taken, written-taken}
-use Rattle.guess.specs.Fits.{beforeOctet, behindOctet, untilFeed, hasFeed, behindFeed, behindFeeds, feeds, without, without-append, whole, whole-append, whole-feed, has-append, until-append, feeds-append, Fits, fits-none, fits-open, fits-split, fits-join, fits-then}
+use Rattle.guess.specs.Lines.{beforeOctet, behindOctet, untilFeed, behindFeed, behindFeeds}
+use Rattle.guess.specs.Laws.Fits.{hasFeed, feeds, without, without-append, whole, whole-append, whole-feed, has-append, until-append, feeds-append, Fits, fits-none, fits-open, fits-split, fits-join, fits-then}
 use Rattle.guess.specs.Guess.{valueIn, fitsPiece, pieceIn, boundedIn, linesFor, behindKeys, numbersIn, begins, keyText, headOf}
 
 -- ---- a line
@@ -131,7 +132,7 @@ pub decimal-clean : (n : ℕ) → T (without 10 (decimal n))
 unfolding decimal
 decimal-clean n = digits-clean (digitsOf 20 n) (all-digits 20 n)
 
-pub clean : (z : ℤ) → T (without 10 (signedDecimal z))
+clean : (z : ℤ) → T (without 10 (signedDecimal z))
 unfolding signedDecimal without
 clean (pos n) = decimal-clean n
 clean (negsuc n) = decimal-clean (suc n)
@@ -226,7 +227,7 @@ module _ (kind : Kind) (w : ℕ) (z : ℤ) (key : Key) (q : T (listedKey key)) (
       let f = first-line key z q in
       piece-back kind w t z (small kind w z na fits) fits (value-is (keyText key) (signedDecimal z) t (key-clean key q .1) (sym (f .until-is) ∙ fits-open n (numberText key z) t K (f .has) h .0))
 
-  pub keep-number : (n : ℕ) (K K′ : ℕ → List ℕ → Type 0) → Fits n (numberText key z) t K
+  keep-number : (n : ℕ) (K K′ : ℕ → List ℕ → Type 0) → Fits n (numberText key z) t K
       → (pieceIn kind w t ≡ z → (m : ℕ) → K (suc m) (behindFeeds (linesFor key) t) → K′ (suc m) (behindFeeds (linesFor key) t)) → Fits n (numberText key (pieceIn kind w t)) t K′
   keep-number zero K K′ h c = fits-none _ t K′
   keep-number (suc n) K K′ h c =

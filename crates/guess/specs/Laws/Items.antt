@@ -16,12 +16,13 @@ use Rattle.codec.specs.Laws.Tests.{and-in, and-l, and-r, holds}
 use Rattle.codec.specs.Laws.Item.{beside-first, beside-second, chain-length}
 use Rattle.papers.specs.Names.{text, Key, hidden, shown, angle, pressure, Named}
 use Rattle.scope.specs.Sheet.{keyLine, decimal, numberText, numbersText, partsThere, subfieldsThere, linesThere, linesText, chainText, itemText}
-use Rattle.guess.specs.Fits.{behindFeed, behindFeeds, without, whole, whole-append, Fits, by-lines, fits-nil, fits-open, fits-split, fits-join, fits-then}
+use Rattle.guess.specs.Lines.{behindFeed, behindFeeds}
+use Rattle.guess.specs.Laws.Fits.{without, whole, whole-append, Fits, by-lines, fits-nil, fits-open, fits-split, fits-join, fits-then}
 use Rattle.guess.specs.Guess.{boundedIn, takenLines, leftLines, begins, openIn, bits, countIn, behindCount, thereIn, keysIn, itemNumbers, itemIn, itemLeft}
-use Rattle.guess.specs.Numbers.{line-whole, line-has, line-until, line-feeds, value-is, bounded-back, bounded-in, decimal-clean, key-begins}
-use Rattle.guess.specs.Groups.{linesOk, listedLines, lines-whole, keep-lines, lines-ok, startsAny, starts-right, headsOf, Begins, lines-begin, allowed, headsApart, keep-groups, open-allowed, open-length, listed-length}
-use Rattle.guess.specs.Okay.{lines-length, chain-lines, lines-chain, subfields-lines, lines-subfields, single-lines, lines-single}
-use Rattle.guess.specs.Flags.{onesOf, allBits, ones-bits, bits-ones, length-bits, bitLines, part-flags, flags-parts, inOrder, there-ones, there-length, parts-length}
+use Rattle.guess.specs.Laws.Numbers.{line-whole, line-has, line-until, line-feeds, value-is, bounded-back, bounded-in, decimal-clean, key-begins}
+use Rattle.guess.specs.Laws.Groups.{linesOk, listedLines, lines-whole, keep-lines, lines-ok, startsAny, starts-right, headsOf, Begins, lines-begin, allowed, headsApart, keep-groups, open-allowed, open-length, listed-length}
+use Rattle.guess.specs.Laws.Okay.{lines-length, chain-lines, lines-chain, subfields-lines, lines-subfields, single-lines, lines-single}
+use Rattle.guess.specs.Laws.Flags.{onesOf, allBits, ones-bits, bits-ones, length-bits, bitLines, part-flags, flags-parts, inOrder, there-ones, there-length, parts-length}
 
 -- ---- a line with a number within bounds: the parts of a chain, and the length of a field
 

@@ -1,4 +1,4 @@
--- The lines of a text, and how far a printed text agrees with another. Every law about agreement is in continuation form: what is to hold behind a printed text, K, is a
+-- How far a printed text agrees with another. Every law about agreement is in continuation form: what is to hold behind a printed text, K, is a
 -- parameter of Fits, so that texts behind each other are Fits within Fits, and no case is split on how many lines there are.
 use mathlib.Core.Path.{_≡_, refl, sym, ap, _∙_, subst}
 use mathlib.Core.Bool.{Bool, true, false, not, _&&_}
@@ -8,35 +8,14 @@ use native.Mathlib.Omega.{arith}
 use lib.Dec.{T, eqb}
 use Rattle.codec.specs.Pick.{pick}
 use Rattle.codec.specs.Laws.Tests.{and-in, and-l, and-r, holds}
+use Rattle.guess.specs.Lines.{beforeOctet, behindOctet, untilFeed, behindFeed, behindFeeds}
 
--- ---- what stands before the first octet x, and behind it
-
-unfoldable pub beforeOctet : ℕ → List ℕ → List ℕ
-beforeOctet x [] = []
-beforeOctet x (o ∷ t) = pick (eqb o x) [] (o ∷ beforeOctet x t)
-
-unfoldable pub behindOctet : ℕ → List ℕ → List ℕ
-behindOctet x [] = []
-behindOctet x (o ∷ t) = pick (eqb o x) t (behindOctet x t)
-
--- ---- the first line of a text: what stands before its line feed, whether it has one, and what follows
-
-abbrev pub untilFeed : List ℕ → List ℕ
-untilFeed t = beforeOctet 10 t
+-- ---- whether a text has a line feed, and how many
 
 unfoldable pub hasFeed : List ℕ → Bool
 hasFeed [] = false
 hasFeed (o ∷ t) = pick (eqb o 10) true (hasFeed t)
 
-abbrev pub behindFeed : List ℕ → List ℕ
-behindFeed t = behindOctet 10 t
-
--- what follows so many lines
-unfoldable pub behindFeeds : ℕ → List ℕ → List ℕ
-behindFeeds zero t = t
-behindFeeds (suc n) t = behindFeeds n (behindFeed t)
-
--- how many line feeds
 unfoldable pub feeds : List ℕ → ℕ
 feeds [] = 0
 feeds (o ∷ t) = pick (eqb o 10) (suc (feeds t)) (feeds t)

@@ -8,19 +8,21 @@ use Rattle.codec.specs.Radix.{total}
 use Rattle.codec.specs.Codec.{number}
 use Rattle.codec.specs.Line.{Held}
 use Rattle.codec.specs.Field.{flags, noSpare, indicator, Contents, body}
+use Rattle.codec.specs.Frame.{writeFrame}
 use Rattle.codec.specs.Laws.Tests.{and-in, and-l, and-r, holds}
 use Rattle.codec.specs.Laws.Codec.{number-okay}
 use Rattle.codec.specs.Laws.Field.{indicator-lt, row-okay}
 use Rattle.papers.specs.Names.{text, namesOf}
 use Rattle.papers.specs.Papers.{known, paperOf}
 use Rattle.scope.specs.Sheet.{keyLine, decimal, itemsText, rowText}
-use Rattle.guess.specs.Fits.{behindOctet, untilFeed, behindFeed, behindFeeds, feeds, without, whole, whole-append, Fits, by-lines, fits-open, fits-split, fits-join, fits-then, fits-self, fits-end}
-use Rattle.guess.specs.Guess.{valueIn, begins, rowIn, indicatorOf, indicatorIn, categoryOf, categoryIn, boundedIn, lengthIn, contentsIn, guessOf, sheetWith}
-use Rattle.guess.specs.Numbers.{line-whole, line-has, line-until, line-feeds, decimal-clean, bounded-in, key-begins}
-use Rattle.guess.specs.Groups.{Begins, startsAny}
-use Rattle.guess.specs.Items.{keep-bounded}
-use Rattle.guess.specs.Row.{row-whole, keep-row, row-made, indicator-in}
-use Rattle.guess.specs.Papers.{last, papers-right, as-many, items-told, category-told, category-known}
+use Rattle.guess.specs.Lines.{behindOctet, untilFeed, behindFeed, behindFeeds}
+use Rattle.guess.specs.Laws.Fits.{feeds, without, whole, whole-append, Fits, by-lines, fits-open, fits-split, fits-join, fits-then, fits-self, fits-end}
+use Rattle.guess.specs.Guess.{valueIn, begins, rowIn, indicatorOf, indicatorIn, categoryOf, categoryIn, boundedIn, lengthIn, contentsIn, guessOf, behindLen, sheetWith}
+use Rattle.guess.specs.Laws.Numbers.{line-whole, line-has, line-until, line-feeds, decimal-clean, bounded-in, key-begins}
+use Rattle.guess.specs.Laws.Groups.{Begins, startsAny}
+use Rattle.guess.specs.Laws.Items.{keep-bounded}
+use Rattle.guess.specs.Laws.Row.{row-whole, keep-row, row-made, indicator-in}
+use Rattle.guess.specs.Laws.Papers.{last, papers-right, as-many, items-told, category-told, category-known}
 
 -- ---- a line whose words tell what it was made of
 
@@ -52,9 +54,6 @@ end-begins K m x h =
 abbrev rowOf : ℕ → Contents → List ℕ
 rowOf cat r = rowText (flags (r .0)) (paperOf cat) (namesOf cat) (r .1)
 
-abbrev behindLen : ℕ → Contents → List ℕ
-behindLen cat r = keyLine (text "items") (itemsText [] (flags (r .0)) (namesOf cat)) ++ (rowOf cat r ++ endLine)
-
 module _ (cat : ℕ) (known-is : T (known cat)) where
   row-is-whole : (r : Contents) → T (whole (rowOf cat r))
   row-is-whole r = row-whole last (flags (r .0)) (paperOf cat) (namesOf cat) (papers-right cat known-is) (r .1)
@@ -78,7 +77,7 @@ module _ (cat : ℕ) (known-is : T (known cat)) where
 
     pub keep-contents : (n : ℕ) (t : List ℕ) (K K′ : ℕ → List ℕ → Type 0) → Fits n (behindLen cat r) t K
         → (contentsIn cat t ≡ r → (m : ℕ) (x : List ℕ) → K (suc m) x → K′ (suc m) x) → Fits n (behindLen cat (contentsIn cat t)) t K′
-    unfolding contentsIn
+    unfolding contentsIn behindLen
     keep-contents n t K K′ h c =
         let i : ℕ = indicatorIn (namesOf cat) t in
         let t2 : List ℕ = behindFeed t in
@@ -112,8 +111,12 @@ Told = ℕ × ℕ × Contents
 abbrev pub toldIn : List ℕ → Told
 toldIn t = (categoryIn t, lengthIn t, guessOf t)
 
+-- its sheet, and its field
 abbrev pub sheetIn : List ℕ → List ℕ
 sheetIn t = sheetWith (categoryIn t) (lengthIn t) (guessOf t)
+
+abbrev pub fieldIn : List ℕ → List ℕ
+fieldIn t = writeFrame (body (paperOf (categoryIn t))) (guessOf t)
 
 pub category-in : (t : List ℕ) → T (known (categoryIn t))
 unfolding categoryIn

@@ -11,14 +11,11 @@ use lib.ListN.{length, getD, take, drop, length-drop, drop-of-length-le}
 use lib.Seq.{drop-cons, take-all}
 use Rattle.codec.specs.Pick.{pick}
 use Rattle.words.specs.Numbers.{numberIn}
-use Rattle.guess.specs.Fits.{beforeOctet, behindOctet, behindFeed, behindFeeds}
+use Rattle.walk.specs.Lines.{placeIn, firstLonger, wordsIn}
+use Rattle.guess.specs.Lines.{beforeOctet, behindOctet, behindFeed, behindFeeds}
 use Rattle.guess.specs.Guess.{valueIn, boundedIn}
 
--- ---- the place of the first octet x, or the length
-
-unfoldable pub placeIn : ℕ → List ℕ → ℕ
-placeIn x [] = 0
-placeIn x (o ∷ s) = pick (eqb o x) 0 (suc (placeIn x s))
+-- ---- the place of an octet
 
 module _ (x : ℕ) (s : List ℕ) (i : ℕ) (h : i < length s) where
   pub at-octet : getD s i 0 ≡ x → placeIn x (drop i s) ≡ 0
@@ -68,16 +65,7 @@ past-there s n = take-all (length s - n) (drop n s) (omega (arith, length-drop n
 pub past-end : (s : List ℕ) (n : ℕ) → length s ≤ n → take (length s - length s) (drop (length s) s) ≡ drop n s
 past-end s n h = past-there s (length s) ∙ drop-of-length-le s {i = length s} (omega arith) ∙ sym (drop-of-length-le s h)
 
--- ---- the words of a text, one space between two
-
-unfoldable firstLonger : ℕ → List (List ℕ) → List (List ℕ)
-firstLonger o [] = []
-firstLonger o (w ∷ ws) = (o ∷ w) ∷ ws
-
-unfoldable pub wordsIn : List ℕ → List (List ℕ)
-unfolding firstLonger
-wordsIn [] = [] ∷ []
-wordsIn (o ∷ t) = pick (eqb o 32) ([] ∷ wordsIn t) (firstLonger o (wordsIn t))
+-- ---- words
 
 words-split : (t : List ℕ) → wordsIn t ≡ beforeOctet 32 t ∷ drop 1 (wordsIn t)
 unfolding wordsIn firstLonger beforeOctet

@@ -17,12 +17,13 @@ use Rattle.codec.specs.Field.{isNil, isCons, uncons, firstFlag, nextFlags, plac
 use Rattle.codec.specs.Laws.Tests.{and-in, and-l, and-r}
 use Rattle.codec.specs.Laws.Radix.{cut-join, join-lt}
 use Rattle.codec.specs.Laws.Item.{only-nothing, zeros-yes}
+use Rattle.layout.specs.Laws.Record.{zero-all}
 use Rattle.papers.specs.Names.{text, Named}
 use Rattle.scope.specs.Sheet.{itemText, rowText}
-use Rattle.guess.specs.Fits.{whole, whole-append, whole-pick, Fits, fits-nil, fits-split, fits-join}
+use Rattle.guess.specs.Laws.Fits.{whole, whole-append, whole-pick, Fits, fits-nil, fits-split, fits-join}
 use Rattle.guess.specs.Guess.{begins, itemIn, itemLeft, rowIn, namesIn, indicatorOf}
-use Rattle.guess.specs.Groups.{Begins, startsAny, starts-right}
-use Rattle.guess.specs.Items.{itemHeads, itemRight, keep-item, item-begin, item-whole, item-okay}
+use Rattle.guess.specs.Laws.Groups.{Begins, startsAny, starts-right}
+use Rattle.guess.specs.Laws.Items.{itemHeads, itemRight, keep-item, item-begin, item-whole, item-okay}
 
 -- how the rows of items may begin, and what is asked of them with hs behind
 unfoldable pub rowHeads : List Item → List Named → List (List ℕ) → List (List ℕ)
@@ -49,7 +50,7 @@ module _ (hs : List (List ℕ)) where
       (whole-pick (eqb (firstFlag ds) 1) _ (item-whole it nm (rowHeads its nms hs) (and-l (itemRight it nm (rowHeads its nms hs)) _ q) ((uncons vs) .0)))
       (row-whole (nextFlags ds) its nms (and-r (itemRight it nm (rowHeads its nms hs)) _ q) ((uncons vs) .1))
 
-  pub row-begin : (ds : List ℕ) (its : List Item) (nms : List Named) → T (rowRight its nms hs) → (vs : List Held) → T ((row ds its) .okay vs) → (K : ℕ → List ℕ → Type 0) → Begins hs K
+  row-begin : (ds : List ℕ) (its : List Item) (nms : List Named) → T (rowRight its nms hs) → (vs : List Held) → T ((row ds its) .okay vs) → (K : ℕ → List ℕ → Type 0) → Begins hs K
       → Begins (rowHeads its nms hs) (λ m x. Fits m (rowText ds its nms vs) x K)
   unfolding rowText rowRight rowHeads row Fits
   row-begin ds [] [] q vs o K a m x h = a m x h
@@ -151,11 +152,6 @@ names-length comma (nm ∷ nms) w = go (begins (comma ++ nm .name) w) (names-len
     go true a b = ap suc a
     go false a b = ap suc b
 
-zeros-zero : (k : ℕ) → T (allZero (replicate k 0))
-unfolding allZero
-zeros-zero zero = tt
-zeros-zero (suc k) = zeros-zero k
-
 -- it is an octet, and its spare places are 0
 pub indicator-in : (its : List Item) (nms : List Named) → length its ≡ length nms → length nms ≤ 8 → (w : List ℕ) → (indicatorOf nms w < 256) × T (noSpare its (indicatorOf nms w))
 unfolding indicatorOf total
@@ -165,4 +161,4 @@ indicator-in its nms e h w =
     let ds : List ℕ = namesIn [] nms w ++ replicate k 0 in
     let d : T (digits ones ds) = subst (λ j. T (digits (replicate j 1) ds)) f (bits-digits [] nms w k) in
     let c : flags (join ones ds) ≡ ds = cut-join ones ds d in
-    (join-lt ones ds d, subst (λ x. T (allZero (drop (length its) x))) (sym c) (subst (λ x. T (allZero x)) (sym (drop-at (namesIn [] nms w) (replicate k 0) (length its) (names-length [] nms w ∙ sym e))) (zeros-zero k)))
+    (join-lt ones ds d, subst (λ x. T (allZero (drop (length its) x))) (sym c) (subst (λ x. T (allZero x)) (sym (drop-at (namesIn [] nms w) (replicate k 0) (length its) (names-length [] nms w ∙ sym e))) (zero-all k)))

@@ -16,9 +16,9 @@ use Rattle.codec.specs.Laws.Tests.{and-in, and-l, and-r, holds}
 use Rattle.codec.specs.Laws.Item.{zeros-are, zeros-yes}
 use Rattle.papers.specs.Names.{Key}
 use Rattle.scope.specs.Sheet.{numbersText, linesText}
-use Rattle.guess.specs.Fits.{whole, whole-append, whole-pick, Fits, by-lines, fits-nil, fits-split, fits-join}
+use Rattle.guess.specs.Laws.Fits.{whole, whole-append, whole-pick, Fits, by-lines, fits-nil, fits-split, fits-join}
 use Rattle.guess.specs.Guess.{behindKeys, numbersIn, takenLines, leftLines, begins, headOf, openIn}
-use Rattle.guess.specs.Numbers.{numbers-whole, listed, keep-numbers, numbers-fit, group-begins}
+use Rattle.guess.specs.Laws.Numbers.{numbers-whole, listed, keep-numbers, numbers-fit, group-begins}
 
 -- ---- numbers that a line can hold: there, they fit and are within their limits; absent, they are zeros
 

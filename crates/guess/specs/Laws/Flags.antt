@@ -13,8 +13,8 @@ use Rattle.codec.specs.Item.{slotsOf, isOne}
 use Rattle.codec.specs.Laws.Tests.{and-in, and-l, and-r}
 use Rattle.scope.specs.Sheet.{partsThere, subfieldsThere}
 use Rattle.guess.specs.Guess.{bit, bits}
-use Rattle.guess.specs.Groups.{lineOk, linesOk, allowed, fit-length}
-use Rattle.guess.specs.Okay.{lines-zeros, zeros-lines, parts-suc}
+use Rattle.guess.specs.Laws.Groups.{lineOk, linesOk, allowed, fit-length}
+use Rattle.guess.specs.Laws.Okay.{lines-zeros, zeros-lines, parts-suc}
 
 -- ---- bits as numbers, and numbers as bits
 

@@ -8,7 +8,8 @@ use borrow.Author.Tests.{eq-eqb, eqb-true, le-leb, lt-leb}
 use lib.Dec.{T, eqb, leb, eqb→eq}
 use Rattle.codec.specs.Pick.{pick}
 use Rattle.codec.specs.Laws.Tests.{and-in, and-l, and-r}
-use Rattle.guess.specs.Fits.{beforeOctet, behindOctet, untilFeed, hasFeed, behindFeed, feeds, has-append, until-append, behind-append, Fits, fits-close}
+use Rattle.guess.specs.Lines.{beforeOctet, behindOctet, untilFeed, behindFeed}
+use Rattle.guess.specs.Laws.Fits.{hasFeed, feeds, has-append, until-append, behind-append, Fits, fits-close}
 use Rattle.guess.specs.Guess.{firstWrong}
 use Rattle.scope.specs.Rebuilding.{areLines, Shared}
 

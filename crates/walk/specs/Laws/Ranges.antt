@@ -1,6 +1,6 @@
--- A number of a piece is one between its two ends, so that code needs only a table of ends.
+-- The numbers of a piece are those of a range; one law for each way through the code that asks for it.
 use mathlib.Core.Path.{_≡_, refl, sym, ap, ap₂, _∙_, subst}
-use mathlib.Core.Bool.{Bool, true, false, _&&_}
+use mathlib.Core.Bool.{Bool, true, false}
 use mathlib.Core.List.{List}
 use Prim.Native.Nat.{ℕ, zero, suc, _+_, _-_, _*_, _^_, _/_, _≤_, zero-le}
 use native.Mathlib.Nat.{pow-suc}
@@ -16,17 +16,8 @@ use Rattle.codec.specs.Laws.Tests.{and-in, and-l, and-r}
 use Rattle.longest.specs.Laws.Ranges.{lowest, highest}
 use Rattle.words.specs.Numbers.{isSigned, signedValue, signedIn, wholeIn}
 use Rattle.guess.specs.Guess.{valueIn, fitsPiece, pieceIn}
-use Rattle.guess.specs.Numbers.{small}
-
--- the ends are numbers of the piece
-unfoldable pub endsRight : Kind → ℕ → Bool
-unfolding inSigned
-endsRight plain w = true
-endsRight signed w = leb 1 w
-endsRight (limited lo hi) w = inSigned (2 ^ w) lo && inSigned (2 ^ w) hi
-
-unfoldable pub between : ℤ → ℤ → ℤ → Bool
-between lo hi z = leZ lo z && leZ z hi
+use Rattle.guess.specs.Laws.Numbers.{small}
+use Rattle.walk.specs.Ranges.{endsRight, between, rangedIn}
 
 same-test : (a b : Bool) → (T a → T b) → (T b → T a) → a ≡ b
 same-test true true f g = refl
@@ -67,26 +58,22 @@ in-fits (limited lo hi) w e z b = and-in (inSigned (2 ^ w) z) _ (go lo hi z (and
 fits-between : (k : Kind) (w : ℕ) → T (endsRight k w) → (z : ℤ) → fitsPiece k w z ≡ between (lowest k w) (highest k w) z
 fits-between k w e z = same-test (fitsPiece k w z) (between (lowest k w) (highest k w) z) (fits-in k w z) (in-fits k w e z)
 
--- the number that code takes, lo and hi being looked up
-unfoldable pub endedIn : ℤ → ℤ → List ℕ → ℤ
-endedIn lo hi t = pick (between lo hi (wholeIn (valueIn t))) (wholeIn (valueIn t)) (pos 0)
-
 module _ (lo hi : ℤ) (t : List ℕ) {n : ℤ} (e : n ≡ wholeIn (valueIn t)) where
-  ended-by : (b : Bool) → between lo hi n ≡ b → pick b n (pos 0) ≡ endedIn lo hi t
-  unfolding endedIn
-  ended-by b eb = ap₂ (λ x z. pick x z (pos 0)) (sym eb ∙ ap (between lo hi) e) e
+  ranged-by : (b : Bool) → between lo hi n ≡ b → pick b n (pos 0) ≡ rangedIn lo hi t
+  unfolding rangedIn
+  ranged-by b eb = ap₂ (λ x z. pick x z (pos 0)) (sym eb ∙ ap (between lo hi) e) e
 
-  pub ended-there : leZ lo n ≡ true → leZ n hi ≡ true → n ≡ endedIn lo hi t
+  pub ranged-there : leZ lo n ≡ true → leZ n hi ≡ true → n ≡ rangedIn lo hi t
   unfolding between
-  ended-there a b = ended-by true (rw (a, b) refl)
+  ranged-there a b = ranged-by true (rw (a, b) refl)
 
-  pub ended-high : leZ lo n ≡ true → leZ n hi ≡ false → pos 0 ≡ endedIn lo hi t
+  pub ranged-high : leZ lo n ≡ true → leZ n hi ≡ false → pos 0 ≡ rangedIn lo hi t
   unfolding between
-  ended-high a b = ended-by false (rw (a, b) refl)
+  ranged-high a b = ranged-by false (rw (a, b) refl)
 
-  pub ended-low : leZ lo n ≡ false → pos 0 ≡ endedIn lo hi t
+  pub ranged-low : leZ lo n ≡ false → pos 0 ≡ rangedIn lo hi t
   unfolding between
-  ended-low a = ended-by false (rw a refl)
+  ranged-low a = ranged-by false (rw a refl)
 
 abbrev fitting : Kind → ℕ → ℤ → ℤ
 fitting k w z = pick (fitsPiece k w z) z (pos 0)
@@ -95,9 +82,9 @@ abbrev within : ℤ → ℤ → ℤ → ℤ
 within lo hi z = pick (between lo hi z) z (pos 0)
 
 -- a word that writes no number is no number of a piece, and 0 is taken
-pub piece-ended : (k : Kind) (w : ℕ) → w ≤ 24 → T (endsRight k w) → (t : List ℕ) → pieceIn k w t ≡ endedIn (lowest k w) (highest k w) t
-unfolding pieceIn endedIn signedIn wholeIn
-piece-ended k w na e t = go (isSigned (valueIn t))
+pub piece-ranged : (k : Kind) (w : ℕ) → w ≤ 24 → T (endsRight k w) → (t : List ℕ) → pieceIn k w t ≡ rangedIn (lowest k w) (highest k w) t
+unfolding pieceIn rangedIn signedIn wholeIn
+piece-ranged k w na e t = go (isSigned (valueIn t))
   where
     zero-either : (b : Bool) → pick b (pos 0) (pos 0) ≡ pos 0
     zero-either true = refl

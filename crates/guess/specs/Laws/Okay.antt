@@ -24,7 +24,7 @@ use Rattle.codec.specs.Laws.Codec.{number-okay}
 use Rattle.codec.specs.Laws.Line.{line-count}
 use Rattle.codec.specs.Laws.Item.{zeros-are, zeros-yes, beside-first, beside-second, opt-length}
 use Rattle.scope.specs.Sheet.{partsThere, subfieldsThere}
-use Rattle.guess.specs.Groups.{lineOk, linesOk, fit-length}
+use Rattle.guess.specs.Laws.Groups.{lineOk, linesOk, fit-length}
 
 -- ---- a line
 

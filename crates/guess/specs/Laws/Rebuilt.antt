@@ -15,11 +15,12 @@ use Rattle.codec.specs.Field.{Contents, body, flags}
 use Rattle.codec.specs.Frame.{Outcome, accepted, refused, readFrame, writeFrame, okayFrame}
 use Rattle.codec.specs.Meaning.{lenOf}
 use Rattle.codec.specs.Laws.Tests.{and-in, and-l, and-r, holds}
+use Rattle.codec.specs.Laws.Frame.{refused≢accepted}
 use Rattle.codec.specs.Laws.Longest.{field-size}
 use Rattle.papers.specs.Names.{text, namesOf}
 use Rattle.papers.specs.Papers.{known, paperOf, LONGEST}
 use Rattle.papers.specs.Laws.Papers.{few-octets}
-use Rattle.layout.specs.Answer.{placeOf, lengthOf}
+use Rattle.layout.specs.Answer.{numberOf, placeOf, lengthOf}
 use Rattle.layout.specs.declared.Reading.{Reading}
 use Rattle.layout.specs.declared.Answer.the-variants.{Accepted}
 use Rattle.scope.specs.Reading.{fieldOf, readOf}
@@ -31,12 +32,13 @@ use Rattle.scope.specs.Sheet.{keyLine, decimal, itemsText, rowText, refusalText
 use Rattle.text.specs.Laws.Decimals.{decimal-most}
 use Rattle.longest.specs.Longest.{longestSheet}
 use Rattle.longest.specs.Laws.Longest.{sheet-longest}
-use Rattle.guess.specs.Fits.{without, behindFeed, behind-append, feeds, feeds-append}
-use Rattle.guess.specs.Guess.{categoryIn, lengthIn, guessOf, sheetWith, firstWrong, givenOf, rebuildOf}
-use Rattle.guess.specs.Numbers.{line-has, line-behind, decimal-clean}
-use Rattle.guess.specs.Papers.{by-known}
-use Rattle.guess.specs.Whole.{Told, toldIn, sheetIn, category-in, length-in, guess-okay, keep-sheet, sheet-told}
-use Rattle.guess.specs.Wrong.{through, through-shared, shared-same, Same, same-through, wrong-none, wrong-behind, wrong-self, wrong-through, lines-feeds, front-shared}
+use Rattle.guess.specs.Lines.{behindFeed}
+use Rattle.guess.specs.Laws.Fits.{without, behind-append, feeds, feeds-append}
+use Rattle.guess.specs.Guess.{categoryIn, lengthIn, guessOf, behindLen, sheetWith, firstWrong, givenOf, rebuildOf}
+use Rattle.guess.specs.Laws.Numbers.{line-has, line-behind, decimal-clean}
+use Rattle.guess.specs.Laws.Papers.{by-known}
+use Rattle.guess.specs.Laws.Whole.{Told, toldIn, sheetIn, fieldIn, category-in, length-in, guess-okay, keep-sheet, sheet-told}
+use Rattle.guess.specs.Laws.Wrong.{through, through-shared, shared-same, Same, same-through, wrong-none, wrong-behind, wrong-self, wrong-through, lines-feeds, front-shared}
 
 abbrev pub Printed : List ℕ → Type 0
 Printed = rebuilding.Printed readOf
@@ -56,8 +58,8 @@ Right = rebuilding.Right readOf
 -- ---- the sheet of an accepted field
 
 module _ {cat : ℕ} {s : List ℕ} {n : ℕ} (q : Read cat s n) where
-  pub sheet-with : sheetOf (cat ∷ s) ≡ sheetWith cat n (q .what)
-  unfolding sheetOf fieldText fieldOf sheetWith
+  sheet-with : sheetOf (cat ∷ s) ≡ sheetWith cat n (q .what)
+  unfolding sheetOf fieldText fieldOf sheetWith behindLen
   sheet-with = rw (q .known-is, q .body-is, q .len-is) refl
 
   read-known : T (known cat)
@@ -73,22 +75,22 @@ module _ {s : List ℕ} (p : Printed s) where
   abbrev what : Contents
   what = (found) .what
 
-  pub printed-known : T (known (p .cat))
+  printed-known : T (known (p .cat))
   printed-known = read-known found
 
   printed-okay : T ((body (paperOf (p .cat))) .okay what)
   printed-okay = read-okay (p .are-octets) found
 
-  pub printed-with : s ≡ sheetWith (p .cat) (p .len) what
+  printed-with : s ≡ sheetWith (p .cat) (p .len) what
   unfolding sheetWith
   printed-with =
       let a : List ℕ = keyLine (text "cat") (decimal (p .cat)) in
       let b : List ℕ = keyLine (text "len") (decimal (p .n)) in
-      let tail : List ℕ = keyLine (text "items") (itemsText [] (flags (what .0)) (namesOf (p .cat))) ++ (rowText (flags (what .0)) (paperOf (p .cat)) (namesOf (p .cat)) (what .1) ++ keyLine (text "end") (text "ok")) in
+      let tail : List ℕ = behindLen (p .cat) what in
       let e : p .others ≡ tail = cancel b (p .others) tail (cancel a (b ++ p .others) (b ++ tail) (sym (p .sheet-is) ∙ sheet-with found)) in
       p .text-is ∙ ap (λ x. a ++ (keyLine (text "len") (decimal (p .len)) ++ x)) e
 
-  pub printed-told : (x : List ℕ) → toldIn (s ++ x) ≡ (p .cat, p .len, what)
+  printed-told : (x : List ℕ) → toldIn (s ++ x) ≡ (p .cat, p .len, what)
   printed-told x = ap (λ y. toldIn (y ++ x)) printed-with ∙ sheet-told (p .cat) printed-known (p .len) (p .least) (p .most) what printed-okay x
 
 -- ---- contents that can be written make a printed sheet
@@ -123,7 +125,7 @@ module _ (cat : ℕ) (k : T (known cat)) (r : Contents) (o : T ((body (paperOf c
     len = len;
     least = a;
     most = b;
-    others = keyLine (text "items") (itemsText [] (flags (r .0)) (namesOf cat)) ++ (rowText (flags (r .0)) (paperOf cat) (namesOf cat) (r .1) ++ keyLine (text "end") (text "ok"));
+    others = behindLen cat r;
     sheet-is = written-sheet;
     text-is = e;
   }
@@ -147,19 +149,19 @@ unfoldable pub wrongIn : List ℕ → ℕ
 wrongIn t = firstWrong 1 (sheetIn t) t
 
 module _ (t : List ℕ) where
-  pub printed-right : Printed t → wrongIn t ≡ 0
+  printed-right : Printed t → wrongIn t ≡ 0
   unfolding wrongIn
   printed-right p =
       let e : toldIn t ≡ (p .cat, p .len, what p) = ap toldIn (sym (append-nil t)) ∙ printed-told p [] in
       let f : sheetIn t ≡ t = ap (λ (x : Told). sheetWith (x .0) (x .1) (x .2)) e ∙ sym (printed-with p) in
       ap (λ x. firstWrong 1 x t) f ∙ wrong-self t 1
 
-  pub right-printed : wrongIn t ≡ 0 → Printed t
+  right-printed : wrongIn t ≡ 0 → Printed t
   unfolding wrongIn
   right-printed e = subst Printed (wrong-none (sheetIn t) t 1 (omega arith) e) (guess-printed t)
 
   module _ (n : wrongIn t ≡ 0 → ⊥) (k : ℕ) where
-    pub agrees-before : Agrees t k → k < wrongIn t
+    agrees-before : Agrees t k → k < wrongIn t
     unfolding wrongIn
     agrees-before a =
         let h : 1 + k ≤ firstWrong 1 (sheetIn t) t = leb→le (1 + k) (firstWrong 1 (sheetIn t) t) (subst T (wrong-through (sheetIn t) t 1 k n) (same-through k (sheetIn t) t (guess-agrees t k a))) in
@@ -178,7 +180,7 @@ module _ (t : List ℕ) (room : ℕ) where
   too-long h = rw (lt-ltb 32_768 (length t) h) refl
 
   module _ (short : length t ≤ 32_768) where
-    answered : rebuildOf t room ≡ givenOf (wrongIn t) (categoryIn t) (lengthIn t) (writeFrame (body (paperOf (categoryIn t))) (guessOf t)) room
+    pub answered : rebuildOf t room ≡ givenOf (wrongIn t) (categoryIn t) (lengthIn t) (fieldIn t) room
     unfolding rebuildOf wrongIn
     answered = rw (le-ltb 32_768 (length t) short) refl
 
@@ -208,7 +210,7 @@ printed-answer t room short p =
     let w : writeFrame (body (paperOf (p .cat))) (what p) ≡ take (p .n) (p .field) = sym (f .front) ∙ ap (λ n. take n (p .field)) (sym ((found p) .len-is)) in
     let n : length (take (p .n) (p .field)) ≡ p .n = ap length (sym w) ∙ f .len-is ∙ sym ((found p) .len-is) in
     answered t room short
-    ∙ ap (λ j. givenOf j (categoryIn t) (lengthIn t) (writeFrame (body (paperOf (categoryIn t))) (guessOf t)) room) (printed-right t p)
+    ∙ ap (λ j. givenOf j (categoryIn t) (lengthIn t) (fieldIn t) room) (printed-right t p)
     ∙ ap (λ (x : Told). givenOf 0 (x .0) (x .1) (writeFrame (body (paperOf (x .0))) (x .2)) room) e
     ∙ ap (λ b. givenOf 0 (p .cat) (p .len) b room) w
     ∙ ap (λ j. pick (eqb (p .len) j) (pick (leb j room) (accepted (p .cat, take (p .n) (p .field))) (refused 11 0)) (refused 18 2)) n
@@ -258,7 +260,7 @@ module _ (room : ℕ) where
         len = n;
         least = omega (arith, l, b .0);
         most = omega (arith, l, b .1);
-        others = keyLine (text "items") (itemsText [] (flags (r .0)) (namesOf cat)) ++ (rowText (flags (r .0)) (paperOf cat) (namesOf cat) (r .1) ++ keyLine (text "end") (text "ok"));
+        others = behindLen cat r;
         sheet-is = sheet-with q;
         text-is = sheet-with q;
       } in
@@ -278,7 +280,7 @@ right-answer t room = go (ltb 32_768 (length t)) refl (eqb (wrongIn t) 0) refl (
     cat = categoryIn t
 
     b : List ℕ
-    b = writeFrame (body (paperOf cat)) (guessOf t)
+    b = fieldIn t
 
     sheet : lengthIn t ≡ length b → sheetIn t ≡ t → IsSheet t cat b
     sheet e f = record {
@@ -353,7 +355,7 @@ cut-short t o r room p =
 
 -- a printed text ends with a line feed
 pub printed-ends : (t : List ℕ) → Printed t → (before : List ℕ) × (t ≡ before ++ (10 ∷ []))
-unfolding sheetWith keyLine
+unfolding sheetWith behindLen keyLine
 printed-ends t p =
     let r : Contents = what p in
     let a : List ℕ = keyLine (text "cat") (decimal (p .cat)) in
@@ -376,7 +378,7 @@ goes-on t o r room short p =
     let f : sheetIn u ≡ t = ap (λ (x : Told). sheetWith (x .0) (x .1) (x .2)) (printed-told p (o ∷ r)) ∙ sym (printed-with p) in
     let s : 1 + feeds t ≡ suc (feeds t) = omega arith in
     let e : wrongIn u ≡ suc (feeds t) = ap (λ x. firstWrong 1 x u) f ∙ wrong-behind t o r 1 ∙ s in
-    answered u room short ∙ ap (λ w. givenOf w (categoryIn u) (lengthIn u) (writeFrame (body (paperOf (categoryIn u))) (guessOf u)) room) e ∙ rw (ne-eqb (suc (feeds t)) 0 (λ z. omega arith)) refl
+    answered u room short ∙ ap (λ w. givenOf w (categoryIn u) (lengthIn u) (fieldIn u) room) e ∙ rw (ne-eqb (suc (feeds t)) 0 (λ z. omega arith)) refl
 
 -- ---- there is one such line
 
@@ -397,19 +399,26 @@ one-line t np j k a na b nb =
 pub behind-line : (k v r : List ℕ) → T (without 10 k) → T (without 10 v) → behindFeed (keyLine k v ++ r) ≡ r
 behind-line k v r nk nv = behind-append r (keyLine k v) (line-has k v) ∙ ap (_++ r) (line-behind k v nk nv)
 
-pub refusal-refused : (cat : ℕ) (s : List ℕ) (n p : ℕ) → fieldOf cat s ≡ refused n p → (room : ℕ) (x : ℕ × List ℕ) → rebuildOf (sheetOf (cat ∷ s)) room ≡ accepted x → ⊥
-unfolding rebuilding.Right sheetOf fieldText refusalText sheetWith without keyLine
-refusal-refused cat s n p e room x h =
-    let g : IsSheet (sheetOf (cat ∷ s)) (x .0) (x .1) = subst (Right (sheetOf (cat ∷ s)) room) h (right-answer (sheetOf (cat ∷ s)) room) .0 in
+-- a text whose second line is no `len`, whatever category its first line says
+no-length : (v w r t : List ℕ) → T (without 10 v) → t ≡ keyLine (text "cat") v ++ (keyLine (text "refused") w ++ r) → (room : ℕ) (x : ℕ × List ℕ) → rebuildOf t room ≡ accepted x → ⊥
+unfolding rebuilding.Right sheetWith without keyLine
+no-length v w r t nv et room x h =
+    let g : IsSheet t (x .0) (x .1) = subst (Right t room) h (right-answer t room) .0 in
     let q = read-found (x .0) (x .1) (length (x .1)) (g .accepted-is) in
-    let r : Contents = q .what in
-    let rest : List ℕ = keyLine (text "items") (itemsText [] (flags (r .0)) (namesOf (x .0))) ++ (rowText (flags (r .0)) (paperOf (x .0)) (namesOf (x .0)) (r .1) ++ keyLine (text "end") (text "ok")) in
-    let a : sheetWith (x .0) (length (x .1)) r ≡ keyLine (text "cat") (decimal cat) ++ (keyLine (text "refused") (decimal n) ++ keyLine (text "at") (decimal p))
-    = sym (sheet-with q) ∙ g .sheet-is ∙ rw e refl in
-    let b : keyLine (text "len") (decimal (length (x .1))) ++ rest ≡ keyLine (text "refused") (decimal n) ++ keyLine (text "at") (decimal p)
-    = sym (behind-line (text "cat") (decimal (x .0)) _ tt (decimal-clean (x .0))) ∙ ap behindFeed a ∙ behind-line (text "cat") (decimal cat) _ tt (decimal-clean cat) in
+    let a : sheetWith (x .0) (length (x .1)) (q .what) ≡ keyLine (text "cat") v ++ (keyLine (text "refused") w ++ r) = sym (sheet-with q) ∙ g .sheet-is ∙ et in
+    let b : keyLine (text "len") (decimal (length (x .1))) ++ behindLen (x .0) (q .what) ≡ keyLine (text "refused") w ++ r
+    = sym (behind-line (text "cat") (decimal (x .0)) _ tt (decimal-clean (x .0))) ∙ ap behindFeed a ∙ behind-line (text "cat") v _ tt nv in
     let c : _≡_ {A = ℕ} 108 114 = ap (λ z. getD z 0 0) b in
     absurd (omega arith)
+
+pub refusal-refused : (cat : ℕ) (s : List ℕ) (n p : ℕ) → fieldOf cat s ≡ refused n p → (room : ℕ) (x : ℕ × List ℕ) → rebuildOf (sheetOf (cat ∷ s)) room ≡ accepted x → ⊥
+unfolding sheetOf fieldText refusalText
+refusal-refused cat s n p e = no-length (decimal cat) (decimal n) (keyLine (text "at") (decimal p)) (sheetOf (cat ∷ s)) (decimal-clean cat) (rw e refl)
+
+-- and that of an input of no octets
+pub nothing-refused : (room : ℕ) (x : ℕ × List ℕ) → rebuildOf (sheetOf []) room ≡ accepted x → ⊥
+unfolding sheetOf refusalText without
+nothing-refused = no-length (text "none") (decimal 2) (keyLine (text "at") (decimal 0)) (sheetOf []) tt refl
 
 -- ---- how far a line's number and a field's length go
 
@@ -425,9 +434,25 @@ wrong-most (x ∷ s) (y ∷ t) j = go (eqb x y) (eqb x 10) (wrong-most s t (suc 
     go true false f g = omega arith
     go false c f g = omega arith
 
-pub guess-short : (t : List ℕ) → length (writeFrame (body (paperOf (categoryIn t))) (guessOf t)) ≤ LONGEST
+pub guess-short : (t : List ℕ) → length (fieldIn t) ≤ LONGEST
 unfolding writeFrame
 guess-short t = omega (arith, field-size (paperOf (categoryIn t)) (guessOf t), few-octets (categoryIn t))
+
+-- ---- room for the longest field is room enough
+
+pub roomy : (t : List ℕ) (room : ℕ) → LONGEST ≤ room → (k : ℕ) → rebuildOf t room ≡ refused 11 k → ⊥
+unfolding rebuildOf givenOf numberOf answerOf octetsGiven
+roomy t room h k =
+    rw (le-leb (length (fieldIn t)) room (omega (arith, h, guess-short t))) (go (ltb 32_768 (length t)) (eqb (firstWrong 1 (sheetIn t) t) 0) (eqb (lengthIn t) (length (fieldIn t))))
+  where
+    other : (n j : ℕ) → (n ≡ 11 → ⊥) → _≡_ {A = Outcome (ℕ × List ℕ)} (refused n j) (refused 11 k) → ⊥
+    other n j z e = z (ap (λ (o : Outcome (ℕ × List ℕ)). numberOf (answerOf (octetsGiven o))) e)
+
+    go : (x y z : Bool) → _≡_ {A = Outcome (ℕ × List ℕ)} (pick x (refused 18 0) (pick y (pick z (accepted (categoryIn t, fieldIn t)) (refused 18 2)) (refused 18 (firstWrong 1 (sheetIn t) t)))) (refused 11 k) → ⊥
+    go true y z = other 18 0 (λ e. omega arith)
+    go false true true = λ e. refused≢accepted (sym e)
+    go false true false = other 18 2 (λ e. omega arith)
+    go false false z = other 18 (firstWrong 1 (sheetIn t) t) (λ e. omega arith)
 
 -- a category is an octet, a line's number at most one more than a text has octets, and a field no longer than the longest
 pub record Few (o : Outcome (ℕ × List ℕ)) : Type 0 where
@@ -451,7 +476,7 @@ rebuilt-few t room = go (ltb 32_768 (length t)) (eqb w 0) (eqb (lengthIn t) (len
     cat = categoryIn t
 
     b : List ℕ
-    b = writeFrame (body (paperOf cat)) (guessOf t)
+    b = fieldIn t
 
     w : ℕ
     w = firstWrong 1 (sheetIn t) t

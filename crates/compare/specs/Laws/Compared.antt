@@ -11,6 +11,7 @@ use lib.ListN.{length, getD, drop, drop-of-length-le}
 use lib.Seq.{drop-cons}
 use Rattle.codec.specs.Pick.{pick}
 use Rattle.guess.specs.Guess.{begins, firstWrong}
+use Rattle.compare.specs.Lines.{counted}
 
 -- ---- whether a text begins with a word
 
@@ -33,9 +34,6 @@ module _ (w t : List ℕ) (i : ℕ) (h : i < length w) where
     begins-more e = rw (add-one i, drop-cons w i 0 h, drop-cons t i 0 k, eq-eqb (getD t i 0) (getD w i 0) e) refl
 
 -- ---- the comparison
-
-unfoldable pub counted : ℕ → ℕ → ℕ
-counted k o = pick (eqb o 10) (suc k) k
 
 pub counted-feed : (k o : ℕ) → o ≡ 10 → k + 1 ≡ counted k o
 unfolding counted

@@ -19,13 +19,13 @@ use Rattle.papers.specs.Cat007.{cat007}
 use Rattle.papers.specs.Names.{text, names048, names021, names007, namesOf}
 use Rattle.papers.specs.Papers.{known, paperOf}
 use Rattle.scope.specs.Sheet.{decimal, digitsOf, itemsText}
-use Rattle.guess.specs.Fits.{without}
+use Rattle.guess.specs.Laws.Fits.{without}
 use Rattle.guess.specs.Guess.{begins, keyText, headOf, keysIn, fitsPiece, namesIn, indicatorOf, categoryOf}
-use Rattle.guess.specs.Numbers.{listedKey, listed}
-use Rattle.guess.specs.Groups.{listedLines, apart, apartAll, headsOf, headsApart}
-use Rattle.guess.specs.Flags.{bitPieces, bitLines, inOrder}
-use Rattle.guess.specs.Items.{leastParts, mostParts, chainKey, chainNamed, allHidden, hiddenFirst, namedRight, itemHeads, behindRight, itemRight}
-use Rattle.guess.specs.Row.{rowHeads, rowRight}
+use Rattle.guess.specs.Laws.Numbers.{listedKey, listed}
+use Rattle.guess.specs.Laws.Groups.{listedLines, apart, apartAll, headsOf, headsApart}
+use Rattle.guess.specs.Laws.Flags.{bitPieces, bitLines, inOrder}
+use Rattle.guess.specs.Laws.Items.{leastParts, mostParts, chainKey, chainNamed, allHidden, hiddenFirst, namedRight, itemHeads, behindRight, itemRight}
+use Rattle.guess.specs.Laws.Row.{rowHeads, rowRight}
 
 -- a fact of the three categories is one of every known category
 pub by-known : (P : ℕ → Type 0) → P 48 → P 21 → P 7 → (cat : ℕ) → T (known cat) → P cat

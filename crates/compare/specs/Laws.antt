@@ -1,0 +1,2 @@
+-- One law for each way through the code.
+pub mod Compared

@@ -1,0 +1,3 @@
+-- One law for each way through the code.
+pub mod Lines
+pub mod Ranges
