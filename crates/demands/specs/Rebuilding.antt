@@ -1,6 +1,6 @@
 -- Reading the sheet back (02, Ask 6), each sentence quoted above its statements. They are of a program, as those of
 -- Demands; Terms has the words. What is printed, and how far a text agrees with it, is said of the program's own reading.
-use Rattle.demands.specs.Terms.{_≡_, _≢_, List, _∷_, _++_, ℕ, suc, _≤_, _<_, T, length, take, Octets, lenOf}
+use Rattle.demands.specs.Terms.{_≡_, _≢_, List, [], _∷_, _++_, ℕ, suc, _≤_, _<_, T, length, take, Octets, lenOf}
 use Rattle.demands.specs.Terms.{Answer, Accepted, sheetOf, text, Record, IsField, Fault, refusedBy, handedOut, areLines}
 use Rattle.demands.specs.Terms as term
 use Rattle.demands.specs.Demands.{Program}
@@ -20,7 +20,8 @@ module _ (p : Program) where
   abbrev pub IsSheet : List ℕ → ℕ → List ℕ → Type 0
   IsSheet = term.IsSheet (p .read)
 
-  -- "at which, the value of `len` set aside, no printed sheet could still agree with the lines so far"
+  -- "at which, the value of `len` set aside, no printed sheet could still agree with the lines so far": the first k lines
+  -- agree with a printed sheet, and the first k + 1 with none, so that line k + 1 is the wrong one
   pub record FirstWrong (t : List ℕ) (k : ℕ) : Type 0 where
     pub before : Agrees t k
     pub here : Agrees t (suc k) → ⊥
@@ -43,9 +44,10 @@ module _ (p : Program) where
     -- prints as the whole text
     pub only-sheets : (t out : List ℕ) (n : ℕ) → p .rebuild t out .1 .0 ≡ Accepted n
         → IsSheet t (p .rebuild t out .0) (take n (p .rebuild t out .1 .1))
-    -- "A sheet of a refusal isn't accepted"
+    -- "A sheet of a refusal isn't accepted", nor that of an input of no octets
     pub of-fault : (cat : ℕ) (s : List ℕ) (n q : ℕ) → Octets s → Fault cat s n q → (out : List ℕ) (m : ℕ)
         → p .rebuild (sheetOf (cat ∷ s)) out .1 .0 ≢ Accepted m
+    pub of-nothing : (out : List ℕ) (m : ℕ) → p .rebuild (sheetOf []) out .1 .0 ≢ Accepted m
     -- "Text beyond 32,768 octets is refused at line 0"
     pub long : (t out : List ℕ) → 32_768 < length t → p .rebuild t out ≡ refusedAt 18 0 out
     -- "The `len` line must hold a plain decimal from 2 to 255, and its value is compared only when all other lines

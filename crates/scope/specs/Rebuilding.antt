@@ -23,7 +23,8 @@ areLines zero (o ∷ p) = false
 areLines (suc k) [] = false
 areLines (suc k) (o ∷ p) = pick (eqb o 10) (areLines k p) (areLines (suc k) p)
 
--- the first k lines of both are whole, and are the same
+-- the first k lines of both are whole, and are the same: "a last line without its line feed" is not among them, nor is a line of which a text that "merely
+-- stops early" has nothing
 pub record Shared (k : ℕ) (s t : List ℕ) : Type 0 where
   pub front : List ℕ
   pub lines-are : T (areLines k front)
@@ -60,7 +61,8 @@ module _ (read : ℕ → List ℕ → Reading) where
     pub sheet-is : sheetOf (cat ∷ b) ≡ t
 
   -- "Text beyond 32,768 octets is refused at line 0"; "18 with the number of the first line, from 1, at which, the value of `len` set aside, no printed
-  -- sheet could still agree with the lines so far"; "line 2 if only the length is wrong; then 11"
+  -- sheet could still agree with the lines so far", of a text that is no printed sheet, since of one every line agrees and nothing follows the last; "line 2 if
+  -- only the length is wrong; then 11"
   pub data Refusal (t : List ℕ) (room : ℕ) : ℕ → ℕ → Type 0 where
     long : 32_768 < length t → Refusal t room 18 0
     line-wrong : length t ≤ 32_768 → (Printed t → ⊥) → (k : ℕ) → Agrees t k → (Agrees t (suc k) → ⊥) → Refusal t room 18 (suc k)

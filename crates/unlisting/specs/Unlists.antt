@@ -1,4 +1,5 @@
--- The answer to a text, a category octet and a field in the front of an output, if the text is their sheet, and the lines of a refusal.
+-- The answer to a text, a category octet and a field in the front of an output, if the text is their sheet, and the lines of a refusal. There is room for
+-- every field, so that the number of a refusal is never 11.
 use mathlib.Core.Path.{_≡_}
 use mathlib.Core.List.{List, [], _∷_, _++_}
 use Prim.Native.Nat.{ℕ, suc, _≤_, _<_}
@@ -19,6 +20,7 @@ ROOM = suc LONGEST
 
 pub record Unlists (t : List ℕ) (a : Answer) (out : List ℕ) : Type 0 where
   pub answer : a ≡ answerOf (octetsGiven (rebuildOf t LONGEST))
+  pub roomy : (k : ℕ) → a ≡ Refused 11 k → ⊥
   pub octets : (cat : ℕ) (b : List ℕ) → rebuildOf t LONGEST ≡ accepted (cat, b) → take (suc (length b)) out ≡ cat ∷ b
   pub few : lengthOf a ≤ LONGEST
   pub within : lengthOf a < length out

@@ -58,13 +58,13 @@ accepted-sheet t out n = go (rebuildOf t (length out)) (rebuilt.right-answer t (
     go (accepted (cat, b)) (is, fits) e = let l : length b ≡ n = cc in subst (IsSheet program t cat) (sym (ap (λ m. take m (b ++ drop (length b) out)) (sym l) ∙ take-append-seam b (drop (length b) out))) is
     go (refused m k) r e = absurd (Refused≢Accepted e)
 
-fault-sheet : (cat : ℕ) (s : List ℕ) (n q : ℕ) → Octets s → Fault cat s n q → (out : List ℕ) (m : ℕ) → program .rebuild (sheetOf (cat ∷ s)) out .1 .0 ≢ Accepted m
+not-accepted : (t out : List ℕ) → ((x : ℕ × List ℕ) → rebuildOf t (length out) ≡ accepted x → ⊥) → (m : ℕ) → program .rebuild t out .1 .0 ≢ Accepted m
 unfolding octetsGiven answerOf
-fault-sheet cat s n q o f out m = go (rebuildOf (sheetOf (cat ∷ s)) (length out)) refl
+not-accepted t out never m = go (rebuildOf t (length out)) never
   where
-    go : (x : Outcome (ℕ × List ℕ)) → rebuildOf (sheetOf (cat ∷ s)) (length out) ≡ x → answerOf (octetsGiven x) ≢ Accepted m
-    go (accepted x) e h = rebuilt.refusal-refused cat s n q (fault-refused cat s o f) (length out) x e
-    go (refused j k) e h = absurd (Refused≢Accepted h)
+    go : (x : Outcome (ℕ × List ℕ)) → ((y : ℕ × List ℕ) → x ≡ accepted y → ⊥) → answerOf (octetsGiven x) ≢ Accepted m
+    go (accepted x) n h = n x refl
+    go (refused j k) n h = absurd (Refused≢Accepted h)
 
 -- ---- lines, and texts without a line feed
 
@@ -121,7 +121,8 @@ rebuilding = record {
   sheets = λ cat s f o h out r. field-given (sheetOf (cat ∷ s)) out cat (take (lenOf s) s) (back cat s f o h (length out) ∙ rw (le-leb (lenOf s) (length out) r) refl);
   no-room = λ cat s f o h out r. refusal-given (sheetOf (cat ∷ s)) out (back cat s f o h (length out) ∙ rw (lt-leb (lenOf s) (length out) r) refl);
   only-sheets = accepted-sheet;
-  of-fault = fault-sheet;
+  of-fault = λ cat s n q o f out. not-accepted (sheetOf (cat ∷ s)) out (rebuilt.refusal-refused cat s n q (fault-refused cat s o f) (length out));
+  of-nothing = λ out. not-accepted (sheetOf []) out (rebuilt.nothing-refused (length out));
   long = λ t out h. refusal-given t out (rebuilt.too-long t (length out) h);
   other-length = λ t out q e. refusal-given t out (rebuilt.wrong-length (length out) t q e);
   line = λ t out h np k w. refusal-given t out (rebuilt.wrong-line t (length out) h np k (w .before) (w .here));

@@ -10,8 +10,10 @@ use Rattle.papers.specs.Papers.{LONGEST}
 use Rattle.layout.specs.declared.Record.{Record}
 use Rattle.scope.specs.Sheet.{sheetOf}
 use Rattle.guess.specs.Guess.{boundedIn, categoryIn, lengthIn, guessOf, sheetWith, firstWrong}
+use Rattle.guess.specs.Laws.Whole.{fieldIn}
+use Rattle.guess.specs.Laws.Rebuilt.{wrongIn}
 use Rattle.rebuild.specs.Rebuilds.{Rebuilds}
-use Rattle.rebuild.specs.Laws.Rebuilds.{octets, wrong, guess-category, octets-written, octets-sheet, rebuild-long, rebuild-line, rebuild-length, rebuild-given}
+use Rattle.rebuild.specs.Laws.Rebuilds.{guess-category, octets-written, octets-sheet, rebuild-long, rebuild-line, rebuild-length, rebuild-given}
 use Rattle.rebuild.proofs.rebuild.Statement.{statement}
 use Rattle.rebuild.proofs.rebuild.Tie as tie
 
@@ -19,7 +21,7 @@ use Rattle.rebuild.proofs.rebuild.Tie as tie
 written : (c : tie.After-octets-in)
     → (let w = c .before .before in
     let t = now (w .before .before .before .before .before .before .args .text) in
-    (c .octets-in .result ≡ length (octets t)) × (take (c .octets-in .result) (w .write .last .1 .0) ≡ octets t) × (c .octets-in .result ≤ length (w .write .last .1 .0)))
+    (c .octets-in .result ≡ length (fieldIn t)) × (take (c .octets-in .result) (w .write .last .1 .0) ≡ fieldIn t) × (c .octets-in .result ≤ length (w .write .last .1 .0)))
 written c =
     let w = c .before .before in
     let k = w .before .before in
@@ -34,15 +36,16 @@ len-is : (c : tie.After-bounded) → c .bounded .result ≡ lengthIn (now (c .be
 unfolding lengthIn
 len-is c = c .bounded .ensures ∙ ap (boundedIn 2 255) (c .before .next .ensures)
 
-line-is : (c : tie.After-wrong) → c .wrong .result ≡ wrong (now (c .before .before .before .before .before .before .before .before .before .before .before .before .args .text))
+line-is : (c : tie.After-wrong) → c .wrong .result ≡ wrongIn (now (c .before .before .before .before .before .before .before .before .before .before .before .before .args .text))
+unfolding wrongIn
 line-is c =
     let b = c .before .before in
     let n = b .before .before in
     let w = n .before .before in
     let k = w .before .before in
     let t = now (k .before .before .before .before .args .text) in
-    c .wrong .ensures (length (octets t)) (guessOf t)
-    (ap₂ (λ x s. sheetOf (x ∷ s)) (category-is k) (written n .1) ∙ octets-sheet t ∙ ap (λ x. sheetWith x (length (octets t)) (guessOf t)) (sym (category-is k)))
+    c .wrong .ensures (length (fieldIn t)) (guessOf t)
+    (ap₂ (λ x s. sheetOf (x ∷ s)) (category-is k) (written n .1) ∙ octets-sheet t ∙ ap (λ x. sheetWith x (length (fieldIn t)) (guessOf t)) (sym (category-is k)))
     ∙ ap₂ (λ x m. firstWrong 1 (sheetWith x m (guessOf t)) t) (category-is k) (len-is b)
 
 refused-requires : tie.Need-refused-requires

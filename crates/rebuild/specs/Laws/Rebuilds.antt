@@ -4,18 +4,18 @@ use mathlib.Core.Bool.{Bool, true, false}
 use mathlib.Core.List.{List, [], _∷_, _++_}
 use Prim.Native.Nat.{ℕ, _+_, _≤_, _<_}
 use native.Mathlib.Omega.{arith}
-use borrow.Author.Tests.{eq-eqb, ne-eqb, le-leb, le-ltb}
+use borrow.Author.Tests.{eq-eqb, ne-eqb, le-leb}
 use lib.Dec.{T, leb, eqb}
 use lib.ListN.{length, take, drop, length-append, length-take}
 use lib.Seq.{take-length, take-append-seam}
 use Rattle.codec.specs.Pick.{pick}
 use Rattle.codec.specs.Codec.{Octets}
-use Rattle.codec.specs.Field.{Contents, body, flags}
+use Rattle.codec.specs.Field.{Contents}
 use Rattle.codec.specs.Frame.{accepted, refused, writeFrame}
 use Rattle.codec.specs.Meaning.{lenOf}
 use Rattle.codec.specs.Laws.Tests.{holds}
-use Rattle.papers.specs.Names.{text, namesOf}
-use Rattle.papers.specs.Papers.{known, paperOf, LONGEST}
+use Rattle.papers.specs.Names.{text}
+use Rattle.papers.specs.Papers.{known, LONGEST}
 use Rattle.layout.specs.declared.Record.{Record}
 use Rattle.layout.specs.declared.Reading.{Reading}
 use Rattle.layout.specs.declared.Answer.{Answer}
@@ -25,7 +25,7 @@ use Rattle.layout.specs.Record.{flatten}
 use Rattle.scope.specs.Reading.{readOf}
 use Rattle.scope.specs.Outputs.{withRoom, answerOf, after, Leaves}
 use Rattle.scope.specs.Writing.{writable, written, writeOf, Wrote}
-use Rattle.scope.specs.Sheet.{keyLine, decimal, itemsText, rowText, sheetOf}
+use Rattle.scope.specs.Sheet.{keyLine, decimal, sheetOf}
 use Rattle.scope.specs.Rebuilding.{categoryGiven, octetsGiven}
 use Rattle.scope.specs.Laws.Reading.{read-then-write, kept-made, afresh-octets}
 use Rattle.text.specs.Typing.{Types}
@@ -34,10 +34,10 @@ use Rattle.text.specs.Laws.Decimals.{decimal-most}
 use Rattle.longest.specs.Laws.Longest.{sheet-longest}
 use Rattle.guess.specs.Lines.{behindFeeds}
 use Rattle.guess.specs.Laws.Fits.{without}
-use Rattle.guess.specs.Guess.{categoryIn, lengthIn, guessOf, sheetWith, firstWrong, givenOf, rebuildOf}
+use Rattle.guess.specs.Guess.{categoryIn, lengthIn, guessOf, behindLen, sheetWith, firstWrong, givenOf, rebuildOf}
 use Rattle.guess.specs.Laws.Numbers.{decimal-clean}
-use Rattle.guess.specs.Laws.Whole.{category-in, guess-okay}
-use Rattle.guess.specs.Laws.Rebuilt.{written-is, written-accepted, written-sheet, too-long, line-length, behind-line, guess-short}
+use Rattle.guess.specs.Laws.Whole.{fieldIn, category-in, guess-okay}
+use Rattle.guess.specs.Laws.Rebuilt.{written-is, written-accepted, written-sheet, wrongIn, too-long, answered, line-length, behind-line, guess-short}
 use Rattle.taken.specs.Items.{recordIn}
 use Rattle.rebuild.specs.declared.Rebuilt.{Rebuilt}
 use Rattle.rebuild.specs.Rebuilds.{Rebuilds, givenBy}
@@ -61,7 +61,7 @@ module _ (cat n len : ℕ) (r : Contents) where
   exchanged-length : length (sheetWith cat len r) ≤ length (sheetWith cat n r) + 20
   unfolding sheetWith
   exchanged-length =
-      let tail : List ℕ = keyLine (text "items") (itemsText [] (flags (r .0)) (namesOf cat)) ++ (rowText (flags (r .0)) (paperOf cat) (namesOf cat) (r .1) ++ keyLine (text "end") (text "ok")) in
+      let tail : List ℕ = behindLen cat r in
       let e : (m : ℕ) → length (catLine cat ++ (lenLine m ++ tail)) ≡ length (catLine cat) + (length (lenLine m) + length tail)
       = λ m. length-append (catLine cat) (lenLine m ++ tail) ∙ ap (length (catLine cat) +_) (length-append (lenLine m) tail) in
       omega (arith, e n, e len, line-length (text "len") (decimal n), line-length (text "len") (decimal len), decimal-most len)
@@ -77,43 +77,37 @@ wrong-is cat len s t o {w = w} eb a c ew d ek n r e =
 -- ---- the octets that are written
 
 module _ (t : List ℕ) where
-  abbrev pub octets : List ℕ
-  octets = writeFrame (body (paperOf (categoryIn t))) (guessOf t)
-
   pub guess-category : recordIn t .cat ≡ categoryIn t
   unfolding recordIn flatten
   guess-category = refl
 
   -- a field reads to the record of the guess, so that it is written
-  guess-written : (room : ℕ) → length octets ≤ room → writeOf (recordIn t) room ≡ accepted octets
+  guess-written : (room : ℕ) → length (fieldIn t) ≤ room → writeOf (recordIn t) room ≡ accepted (fieldIn t)
   unfolding writeOf withRoom recordIn writeFrame lenOf
   guess-written room h =
       let cat : ℕ = categoryIn t in
       let k : T (known cat) = category-in t in
       let o = guess-okay t in
-      let e : readOf cat octets .kept ≡ recordIn t = ap (λ (x : Reading). x .kept) (kept-made cat octets (guessOf t) (holds (known cat) k) (written-is cat k (guessOf t) o)) in
-      let w = read-then-write cat octets (afresh-octets cat (guessOf t) o) (length octets) (written-accepted cat k (guessOf t) o) in
-      let f : written (recordIn t) ≡ octets = ap written (sym e) ∙ w .1 ∙ take-length octets in
-      rw (ap known guess-category ∙ holds (known cat) k, holds (writable (recordIn t)) (subst (λ x. T (writable x)) e (w .0)), f, le-leb (length octets) room h) refl
+      let e : readOf cat (fieldIn t) .kept ≡ recordIn t = ap (λ (x : Reading). x .kept) (kept-made cat (fieldIn t) (guessOf t) (holds (known cat) k) (written-is cat k (guessOf t) o)) in
+      let w = read-then-write cat (fieldIn t) (afresh-octets cat (guessOf t) o) (length (fieldIn t)) (written-accepted cat k (guessOf t) o) in
+      let f : written (recordIn t) ≡ fieldIn t = ap written (sym e) ∙ w .1 ∙ take-length (fieldIn t) in
+      rw (ap known guess-category ∙ holds (known cat) k, holds (writable (recordIn t)) (subst (λ x. T (writable x)) e (w .0)), f, le-leb (length (fieldIn t)) room h) refl
 
   -- what the writer then answers and leaves in an array
-  pub octets-written : {kept : Record} → kept ≡ recordIn t → {l m : List ℕ} {a : Answer} → length l ≡ LONGEST → Wrote kept l a m → {n : ℕ} → n ≡ lengthOf a → (n ≡ length octets) × (take n m ≡ octets) × (n ≤ length m)
+  pub octets-written : {kept : Record} → kept ≡ recordIn t → {l m : List ℕ} {a : Answer} → length l ≡ LONGEST → Wrote kept l a m → {n : ℕ} → n ≡ lengthOf a → (n ≡ length (fieldIn t)) × (take n m ≡ fieldIn t) × (n ≤ length m)
   unfolding answerOf after lengthOf
   octets-written ek {l} {m} {a} el w {n} en =
-      let f : writeOf (recordIn t) (length l) ≡ accepted octets = guess-written (length l) (omega (arith, el, guess-short t)) in
+      let f : writeOf (recordIn t) (length l) ≡ accepted (fieldIn t) = guess-written (length l) (omega (arith, el, guess-short t)) in
       let g = subst (λ o. Leaves o l a m) (ap (λ x. writeOf x (length l)) ek ∙ f) w in
-      let e : n ≡ length octets = en ∙ ap lengthOf (g .answer) in
-      let d : take n m ≡ octets = ap₂ take e (g .output) ∙ take-append-seam octets (drop (length octets) l) in
+      let e : n ≡ length (fieldIn t) = en ∙ ap lengthOf (g .answer) in
+      let d : take n m ≡ fieldIn t = ap₂ take e (g .output) ∙ take-append-seam (fieldIn t) (drop (length (fieldIn t)) l) in
       (e, d, omega (arith, e, ap length d, length-take n m))
 
   -- the field's sheet is that of the guess
-  pub octets-sheet : sheetOf (categoryIn t ∷ octets) ≡ sheetWith (categoryIn t) (length octets) (guessOf t)
+  pub octets-sheet : sheetOf (categoryIn t ∷ fieldIn t) ≡ sheetWith (categoryIn t) (length (fieldIn t)) (guessOf t)
   octets-sheet = written-sheet (categoryIn t) (category-in t) (guessOf t) (guess-okay t)
 
   -- ---- the ways out of `rebuild`
-
-  abbrev pub wrong : ℕ
-  wrong = firstWrong 1 (sheetWith (categoryIn t) (lengthIn t) (guessOf t)) t
 
   module _ (out : List ℕ) where
     refused-by : (n k : ℕ) → rebuildOf t (length out) ≡ refused n k → Rebuilds t out (record { cat = 0; answer = Refused n k }) out
@@ -124,37 +118,33 @@ module _ (t : List ℕ) where
     rebuild-long h = refused-by 18 0 (too-long t (length out) h)
 
     module _ (short : length t ≤ 32_768) where
-      answered : rebuildOf t (length out) ≡ givenOf wrong (categoryIn t) (lengthIn t) octets (length out)
-      unfolding rebuildOf
-      answered = rw (le-ltb 32_768 (length t) short) refl
-
-      module _ {w : ℕ} (ew : w ≡ wrong) where
+      module _ {w : ℕ} (ew : w ≡ wrongIn t) where
         pub rebuild-line : (w ≡ 0 → ⊥) → Rebuilds t out (record { cat = 0; answer = Refused 18 w }) out
         unfolding givenOf
-        rebuild-line h = refused-by 18 w (answered ∙ ap (λ j. givenOf j (categoryIn t) (lengthIn t) octets (length out)) (sym ew) ∙ rw (ne-eqb w 0 h) refl)
+        rebuild-line h = refused-by 18 w (answered t (length out) short ∙ ap (λ j. givenOf j (categoryIn t) (lengthIn t) (fieldIn t) (length out)) (sym ew) ∙ rw (ne-eqb w 0 h) refl)
 
-        module _ (z : w ≡ 0) {len n : ℕ} (el : len ≡ lengthIn t) (en : n ≡ length octets) where
-          right : givenOf wrong (categoryIn t) (lengthIn t) octets (length out) ≡ pick (eqb len n) (pick (leb (length octets) (length out)) (accepted (categoryIn t, octets)) (refused 11 0)) (refused 18 2)
+        module _ (z : w ≡ 0) {len n : ℕ} (el : len ≡ lengthIn t) (en : n ≡ length (fieldIn t)) where
+          right : givenOf (wrongIn t) (categoryIn t) (lengthIn t) (fieldIn t) (length out) ≡ pick (eqb len n) (pick (leb (length (fieldIn t)) (length out)) (accepted (categoryIn t, fieldIn t)) (refused 11 0)) (refused 18 2)
           unfolding givenOf
           right =
-              ap (λ j. givenOf j (categoryIn t) (lengthIn t) octets (length out)) (sym ew ∙ z)
-              ∙ ap₂ (λ i j. pick (eqb i j) (pick (leb (length octets) (length out)) (accepted (categoryIn t, octets)) (refused 11 0)) (refused 18 2)) (sym el) (sym en)
+              ap (λ j. givenOf j (categoryIn t) (lengthIn t) (fieldIn t) (length out)) (sym ew ∙ z)
+              ∙ ap₂ (λ i j. pick (eqb i j) (pick (leb (length (fieldIn t)) (length out)) (accepted (categoryIn t, fieldIn t)) (refused 11 0)) (refused 18 2)) (sym el) (sym en)
 
           pub rebuild-length : (len ≡ n → ⊥) → Rebuilds t out (record { cat = 0; answer = Refused 18 2 }) out
-          rebuild-length h = refused-by 18 2 (answered ∙ right ∙ rw (ne-eqb len n h) refl)
+          rebuild-length h = refused-by 18 2 (answered t (length out) short ∙ right ∙ rw (ne-eqb len n h) refl)
 
-          pub rebuild-given : len ≡ n → {cat : ℕ} {b out′ : List ℕ} {a : Answer} {r : Rebuilt} → cat ≡ categoryIn t → b ≡ octets → Leaves (withRoom (length out) b) out a out′ → r ≡ givenBy cat a → Rebuilds t out r out′
+          pub rebuild-given : len ≡ n → {cat : ℕ} {b out′ : List ℕ} {a : Answer} {r : Rebuilt} → cat ≡ categoryIn t → b ≡ fieldIn t → Leaves (withRoom (length out) b) out a out′ → r ≡ givenBy cat a → Rebuilds t out r out′
           unfolding withRoom categoryGiven octetsGiven answerOf after givenBy
-          rebuild-given h {cat} {b} {out′} {a} {r} ec eb g er = go (leb (length octets) (length out)) refl
+          rebuild-given h {cat} {b} {out′} {a} {r} ec eb g er = go (leb (length (fieldIn t)) (length out)) refl
             where
-              e : rebuildOf t (length out) ≡ pick (leb (length octets) (length out)) (accepted (categoryIn t, octets)) (refused 11 0)
-              e = answered ∙ right ∙ rw (eq-eqb len n h) refl
+              e : rebuildOf t (length out) ≡ pick (leb (length (fieldIn t)) (length out)) (accepted (categoryIn t, fieldIn t)) (refused 11 0)
+              e = answered t (length out) short ∙ right ∙ rw (eq-eqb len n h) refl
 
-              go : (x : Bool) → leb (length octets) (length out) ≡ x → Rebuilds t out r out′
-              go x ex = made x (e ∙ ap (λ y. pick y (accepted (categoryIn t, octets)) (refused 11 0)) ex)
-                  (subst (λ o. Leaves o out a out′) (ap (withRoom (length out)) eb ∙ ap (λ y. pick y (accepted octets) (refused 11 0)) ex) g)
+              go : (x : Bool) → leb (length (fieldIn t)) (length out) ≡ x → Rebuilds t out r out′
+              go x ex = made x (e ∙ ap (λ y. pick y (accepted (categoryIn t, fieldIn t)) (refused 11 0)) ex)
+                  (subst (λ o. Leaves o out a out′) (ap (withRoom (length out)) eb ∙ ap (λ y. pick y (accepted (fieldIn t)) (refused 11 0)) ex) g)
                 where
-                  made : (x : Bool) → rebuildOf t (length out) ≡ pick x (accepted (categoryIn t, octets)) (refused 11 0) → Leaves (pick x (accepted octets) (refused 11 0)) out a out′ → Rebuilds t out r out′
+                  made : (x : Bool) → rebuildOf t (length out) ≡ pick x (accepted (categoryIn t, fieldIn t)) (refused 11 0) → Leaves (pick x (accepted (fieldIn t)) (refused 11 0)) out a out′ → Rebuilds t out r out′
                   made true f l = record {
                     category = ap (λ (y : Rebuilt). y .cat) (er ∙ ap₂ givenBy ec (l .answer)) ∙ ap categoryGiven (sym f);
                     leaves = record { answer = ap (λ (y : Rebuilt). y .answer) (er ∙ ap (givenBy cat) (l .answer)) ∙ ap (λ o. answerOf (octetsGiven o)) (sym f); output = l .output ∙ ap (λ o. after (octetsGiven o) out) (sym f) };

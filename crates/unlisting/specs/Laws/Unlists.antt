@@ -10,14 +10,15 @@ use Rattle.papers.specs.Papers.{LONGEST}
 use Rattle.papers.specs.Names.{text}
 use Rattle.layout.specs.declared.Answer.{Answer}
 use Rattle.layout.specs.declared.Answer.the-variants.{Accepted, Refused}
-use Rattle.layout.specs.Answer.{lengthOf}
+use Rattle.layout.specs.Answer.{numberOf, placeOf, lengthOf}
+use Rattle.layout.specs.Laws.Answer.{Refused≢Accepted}
 use Rattle.scope.specs.Outputs.{answerOf, after}
 use Rattle.scope.specs.Rebuilding.{categoryGiven, octetsGiven}
 use Rattle.scope.specs.Sheet.{keyLine, decimal}
 use Rattle.text.specs.Typing.{Types}
 use Rattle.text.specs.Laws.Typing.{types-none, types-behind}
 use Rattle.guess.specs.Guess.{rebuildOf}
-use Rattle.guess.specs.Laws.Rebuilt.{rebuilt-few}
+use Rattle.guess.specs.Laws.Rebuilt.{rebuilt-few, roomy}
 use Rattle.rebuild.specs.declared.Rebuilt.{Rebuilt}
 use Rattle.rebuild.specs.Rebuilds.{Rebuilds}
 use Rattle.unlisting.specs.Unlists.{ROOM, Unlists, refusalLines}
@@ -27,6 +28,15 @@ kept-length : (o : Outcome (List ℕ)) (l : List ℕ) → lengthOf (answerOf o) 
 unfolding answerOf lengthOf after
 kept-length (accepted b) l h = length-append b (drop (length b) l) ∙ omega (arith, length-drop (length b) l)
 kept-length (refused n k) l h = refl
+
+-- the longest field has room
+never-11 : (t : List ℕ) (k : ℕ) → answerOf (octetsGiven (rebuildOf t LONGEST)) ≡ Refused 11 k → ⊥
+unfolding octetsGiven answerOf numberOf placeOf
+never-11 t k = go (rebuildOf t LONGEST) (roomy t LONGEST (omega arith) k)
+  where
+    go : (o : Outcome (ℕ × List ℕ)) → (o ≡ refused 11 k → ⊥) → answerOf (octetsGiven o) ≡ Refused 11 k → ⊥
+    go (accepted x) n e = absurd (Refused≢Accepted (sym e))
+    go (refused m j) n e = n (ap₂ refused (ap numberOf e) (ap placeOf e))
 
 -- the part behind the first octet is lent; m is what stands there afterwards
 pub unlists-is : (t out : List ℕ) → length out ≡ ROOM → {m : List ℕ} {r : Rebuilt} → Rebuilds t (take (length out - 1) (drop 1 out)) r m
@@ -41,6 +51,7 @@ unlists-is t (o ∷ rest) h {m} {r} p =
     let a : r .answer ≡ answerOf (octetsGiven (rebuildOf t LONGEST)) = q .leaves .answer ∙ ap (λ n. answerOf (octetsGiven (rebuildOf t n))) e in
     record {
       answer = a;
+      roomy = λ k f. never-11 t k (sym a ∙ f);
       octets = λ cat b f.
           let g : rebuildOf t (length mid) ≡ accepted (cat, b) = ap (rebuildOf t) e ∙ f in
           let ec : r .cat ≡ cat = q .category ∙ ap categoryGiven g in
