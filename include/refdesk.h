@@ -4,8 +4,8 @@
  *
  * The functions are proved: whatever the octets and numbers, each answers and leaves exactly what document 01 (01-scope.md)
  * says, ref_copy and ref_rebuild what 02 (02-change-requests.md, Asks 5 and 6) says, and reads and writes only what it is
- * lent. They keep no state and allocate nothing, so threads may call them at once. Link target/staticlib/libexports.a, which `rt staticlib exports`
- * writes, for x86-64 Linux. tests/c has an example.
+ * lent. They keep no state and allocate nothing, so threads may call them at once. Link target/staticlib/libexports.a,
+ * which `rt staticlib exports` writes, for x86-64 Linux. tests/c has an example.
  *
  * Memory is lent for the call and not kept. Each pointer is followed by its count of elements; it is not NULL, also where
  * the count is 0. What is lent as const is only read, and may be lent twice. What is lent for writing (`record` of
@@ -32,8 +32,10 @@ extern "C" {
  */
 #define REF_NUMBER(word) ((unsigned)((uint64_t)(word) >> 48))
 #define REF_WHICH(word) ((unsigned)((uint64_t)(word) >> 32 & 0xFFFF))
+#define REF_CAT(word) REF_WHICH(word)
 #define REF_PLACE(word) ((size_t)((uint64_t)(word) >> 16 & 0xFFFF))
 #define REF_START(word) REF_PLACE(word)
+#define REF_LINE(word) REF_PLACE(word)
 #define REF_LENGTH(word) ((size_t)((uint64_t)(word) & 0xFFFF))
 
 /* The refusals. On every one of them all memory that was lent is as before. */
@@ -232,9 +234,9 @@ uint64_t ref_sheet(const uint8_t *input, size_t input_len, uint8_t *out, size_t 
 /*
  * Rebuilds a field from its sheet: exactly the texts that ref_sheet writes for a field that is not refused are accepted. The
  * field goes into the front of the output; the rest of the output is as before.
- * Answers LEN of the field, and its category as REF_WHICH. Refused, in this order: 18 at line 0 for a text of more than
- * 32,768 octets; 18 at the first line, counted from 1, with which no sheet could go on so, the value of `len` set aside; 18
- * at line 2 if that value alone is wrong; 11. REF_PLACE is the line.
+ * Answers LEN of the field, and its category as REF_CAT. Refused, in this order: 18 at line 0 for a text of more than
+ * 32,768 octets; 18 at the first line, counted from 1, at which no sheet could still agree with the text, whatever value
+ * `len` has; 18 at line 2 if the value of `len` alone is wrong; 11 at 0. REF_LINE is the line, and REF_CAT is then 0.
  */
 #define REF_LONGEST_TEXT 32768
 uint64_t ref_rebuild(const uint8_t *text, size_t text_len, uint8_t *out, size_t out_len);

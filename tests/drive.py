@@ -24,12 +24,11 @@ from failures import failures, file_with
 from lines import EXAMPLES, WRONG, either_case
 from reads import BAD_FIELDS
 from refdesk import FORMS, LIST, MOST, OCTETS, answer
-from reference import rebuild, sheet
+from reference import LONGEST_FIELD, rebuild, sheet
 from started import started
 from vectors import requests
 
 LISTED = 100  # one request of so many is listed
-LONGEST_FIELD = 52  # octets
 SHOWN = 5  # differences that are printed in full
 ROUNDS = 5  # of a measurement
 

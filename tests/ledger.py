@@ -58,6 +58,7 @@ PROMISES = [
     ("promises", "the code computes the program of the demands, each promise allows one result, and runs are as 02 asks by their contracts alone"),
     ("inputs", "`read_in`"),
     ("listing", "the private function behind `main`: what is written is the sheet of what was read"),
+    ("unlisting", "the private functions behind `main`: what is written is the category and the field of the text that was read, or its refusal"),
     ("refdesk", "the private functions behind `main`: between two reads what is left of the input's last line is held"),
 ]
 

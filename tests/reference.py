@@ -8,6 +8,7 @@ import re
 from papers import PAPERS
 
 SLOTS = 77
+LONGEST_FIELD = 52  # octets, of category 048
 LONGEST_TEXT = 32768  # octets of a text that may be a sheet
 
 
@@ -404,8 +405,10 @@ def rebuild(text, room):
         raise Refusal(18, 0)
     lines = Lines(text.decode("latin-1"))
     cat = lines.decimal("cat", 0, 255)
-    items = PAPERS[cat] if cat in PAPERS else lines.refuse()
+    if cat not in PAPERS:
+        lines.refuse()
     length = lines.decimal("len", 2, 255)
+    items = PAPERS[cat]
     names = names_in(lines, items)
     body = b"".join(item_in(lines, item) for item in items if item[0] in names)
     lines.exactly("end=ok")

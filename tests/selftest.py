@@ -3,6 +3,7 @@
 tests; sheets that are read back, whole, cut and spoilt, against what is printed; and the papers' data of crates/papers, as tests/slots.py takes it, and
 docs/SPARE.md held against the transcription of the tests. And that each public function has its wrong programs, as tests/ledger.py counts them."""
 import random
+import re
 from decimal import ROUND_HALF_UP, Decimal
 from itertools import zip_longest
 from math import inf
@@ -339,8 +340,16 @@ def shared(tree, text):
     return len(lines)
 
 
+def computed():
+    """(text, room, answer) of each text that crates/guess computes from its definition."""
+    rows = (slots.ROOT / "crates/guess/specs/Examples.antt").read_text(encoding="utf-8")
+    for text, room, cat, octets, number, line in re.findall(r'read = "(.*)"; room = (\d+); answer = (?:accepted \((\d+), (.*)\)|refused (\d+) (\d+)) }', rows):
+        answer = ("ok", int(cat), bytes(int(o, 16) for o in octets.split(" ∷ ")[:-1])) if cat else ("refused", int(number), int(line))
+        yield text.replace("\\n", "\n").encode(), int(room), answer
+
+
 def spoilt_sheets(count):
-    """Answers to spoilt sheets by 02's sentence. No sheet that there is has the line of a refusal; line 2 alone may be for a length that is not compared."""
+    """Answers to spoilt sheets by 02's sentence; and no sheet of the pool has all lines up to the refused one, but for 2, which may be for the length."""
     rng = random.Random(18)
     sheets = [sheet(given).encode() for given in inputs() if rng.randrange(2) and given[:1] and read(given[0], given[1:])[0] == "ok"]
     tree = tree_of(sheets)
@@ -411,6 +420,9 @@ for text, room, expected in rebuilds.WORKED:
     got = rebuild(text, room)
     assert got == (("ok", expected[0], h(expected[1])) if isinstance(expected[1], str) else ("refused", *expected)), (text, got)
     checks += 1
+examples = list(computed())
+assert len(examples) == 25 and all(rebuild(text, room) == answer for text, room, answer in examples)
+checks += len(examples)
 rng = random.Random(6)
 for cat in PAPERS:
     checks += sum(back_again(bytes([cat]) + field) for field in [full_field(cat, widest)] + [good_field(cat, rng) for _ in range(60)])

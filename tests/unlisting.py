@@ -9,15 +9,15 @@ A text that is no sheet writes nothing to standard output. Its refusal stands on
 import random
 import sys
 
+import listing
 from fields import field_of, full_field, good_field, ones
 from papers import PAPERS
 from pieces import in_pieces, told
 from rebuilds import WORKED
-from reference import LONGEST_TEXT, rebuild, sheet
+from reference import LONGEST_FIELD, LONGEST_TEXT, rebuild, sheet
 from sheets import widest
 
 MOST = LONGEST_TEXT + 1  # octets that the program looks at
-ROOM = 52  # octets of the longest field
 
 
 def inputs():
@@ -56,7 +56,7 @@ def runs():
 
 def wanted(text):
     """What is written, what is said, and the exit status."""
-    kind, *answer = rebuild(text, ROOM)
+    kind, *answer = rebuild(text, LONGEST_FIELD)
     if kind == "ok":
         return bytes([answer[0]]) + answer[1], b"", 0
     return b"", b"refused=%d\nline=%d\n" % tuple(answer), 1
@@ -65,7 +65,7 @@ def wanted(text):
 def undone():
     """(why, what the two programs one behind the other give, the input) of each sheet that listing writes."""
     for given in inputs():
-        listed, _, _ = told("listing", [given], 256)
+        listed, _, _ = told("listing", [given], listing.MOST)
         yield "listing and unlisting", told("unlisting", [listed], MOST), (given, b"", 0)
 
 

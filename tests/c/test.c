@@ -567,7 +567,7 @@ static void test_rebuild(void)
     }
 }
 
-/* A sheet and line feeds behind it: its line 7 is wrong, and behind 32,768 octets its line 0. */
+/* A sheet of six lines and line feeds behind it is refused at line 7, and with more than 32,768 octets in all at line 0. */
 static void test_long_text(void)
 {
     static uint8_t text[GUARD + REF_LONGEST_TEXT + 1 + GUARD], before[sizeof text];
