@@ -235,8 +235,9 @@ uint64_t ref_sheet(const uint8_t *input, size_t input_len, uint8_t *out, size_t 
  * Rebuilds a field from its sheet: exactly the texts that ref_sheet writes for a field that is not refused are accepted. The
  * field goes into the front of the output; the rest of the output is as before.
  * Answers LEN of the field, and its category as REF_CAT. Refused, in this order: 18 at line 0 for a text of more than
- * 32,768 octets; 18 at the first line, counted from 1, at which no sheet could still agree with the text, whatever value
- * `len` has; 18 at line 2 if the value of `len` alone is wrong; 11 at 0. REF_LINE is the line, and REF_CAT is then 0.
+ * 32,768 octets; 18 at the first line, counted from 1, at which no sheet could still agree with the lines so far, whatever
+ * value `len` has: one that is wrong, has no line feed, is missing where the text stops early, or follows `end=ok`; 18 at
+ * line 2 if the value of `len` alone is wrong; 11 at 0. REF_LINE is the line, and REF_CAT is then 0.
  */
 #define REF_LONGEST_TEXT 32768
 uint64_t ref_rebuild(const uint8_t *text, size_t text_len, uint8_t *out, size_t out_len);

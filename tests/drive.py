@@ -24,8 +24,9 @@ from failures import failures, file_with
 from lines import EXAMPLES, WRONG, either_case
 from reads import BAD_FIELDS
 from refdesk import FORMS, LIST, MOST, OCTETS, answer
-from reference import LONGEST_FIELD, rebuild, sheet
+from reference import sheet
 from started import started
+from unlisting import wanted
 from vectors import requests
 
 LISTED = 100  # one request of so many is listed
@@ -182,9 +183,8 @@ def sheet_differences(listing, unlisting, made):
     count = 0
     for given in map(listed, made):
         text = sheet(given).encode()
-        kind, *answer = rebuild(text, LONGEST_FIELD)
-        back = (bytes([answer[0]]) + answer[1], 0) if kind == "ok" else (b"", 1)
-        for program, octets, right in ((listing, given, (text, 0)), (unlisting, text, back)):
+        back, _, status = wanted(text)
+        for program, octets, right in ((listing, given, (text, 0)), (unlisting, text, (back, status))):
             told = given_by(program, octets)
             if told != right:
                 count += 1

@@ -4,8 +4,9 @@ A generator of WRONG gives (number, line); its first line says in which way the 
 tests/refdesk.py, so that the two check each other.
 """
 from refdesk import FORMS, LIST, LONGEST, MOST, NUMBER, OCTET, OCTETS, SPACE
+from sheets import WORKED_TEXT
 
-SHEET = b"cat=48\nlen=6\nitems=M4E,ERR\nM4E=3\nERR=65536\nend=ok\n".hex().upper().encode()  # 01's worked one, as a word
+SHEET = WORKED_TEXT.hex().upper().encode()  # 01's worked one, as a word
 EXAMPLES = [  # a request of each form that is accepted
     b"read 48 062806010000",
     b"write 300 48 0" + b" 0" * 85,

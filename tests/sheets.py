@@ -19,6 +19,7 @@ from reference import keys, lay_item, number_lines, sheet
 RANDOM = 30  # fields of each random kind and category
 LONGEST = {48: 1055, 21: 989, 7: 619}  # the octets of each category's longest sheet
 WORKED = bytes.fromhex("30 06 28 06 01 00 00")
+WORKED_TEXT = b"cat=48\nlen=6\nitems=M4E,ERR\nM4E=3\nERR=65536\nend=ok\n"  # its sheet, by hand from 01
 HALF = 16384  # with a whole number of 32,768 beside it, its angle ends in half a millionth
 
 

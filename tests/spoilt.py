@@ -32,7 +32,7 @@ def move_line(rng, lines, others):
 
 
 def take_line(rng, lines, others):
-    """A line of the other sheet, or one for one of these."""
+    """A line of the other sheet, put before a line of this one or in its place."""
     k = a_line(rng, lines)
     return lines[:k] + [rng.choice(others)] + lines[k + rng.randrange(2):]
 
@@ -109,7 +109,7 @@ def spoilt(rng, text, other):
 
 
 def pool(rng, count):
-    """So many sheets of the categories by turns, of any fields; of every tenth with all that it can have."""
+    """So many sheets, of the categories by turns: of drawn fields, and every tenth of a field with all items, parts and subfields."""
     cats = itertools.islice(itertools.cycle(PAPERS), count)
     inputs = (bytes([cat]) + (good_field(cat, rng) if k % 10 else full_field(cat, drawn(rng))) for k, cat in enumerate(cats))
     return [sheet(given).encode() for given in inputs]

@@ -517,34 +517,34 @@ static const struct rebuild_row {
     size_t room;
     uint64_t word;
 } rebuild_rows[] = {
-    {"", 52, REFUSED(18, 1)},
-    {"\n", 52, REFUSED(18, 1)},
-    {"cat=48", 52, REFUSED(18, 1)},
-    {"cat=48\n", 52, REFUSED(18, 2)},
-    {"cat=48\nlen=2\nitems=\nend=ok", 52, REFUSED(18, 4)},
-    {"cat=48\nlen=2\nitems=\n", 52, REFUSED(18, 4)},
-    {"cat=48\nlen=2\nitems=\nend=ok\n\n", 52, REFUSED(18, 5)},
-    {"cat=048\nlen=2\nitems=\nend=ok\n", 52, REFUSED(18, 1)},
-    {"cat=48\nlen=1\nitems=\nend=ko\n", 52, REFUSED(18, 2)},
-    {"cat=48\nlen=256\nitems=\nend=ko\n", 52, REFUSED(18, 2)},
-    {"cat=48\nlen=02\nitems=\nend=ko\n", 52, REFUSED(18, 2)},
-    {"cat=48\nlen=255\nitems=\nend=ko\n", 52, REFUSED(18, 4)},
+    {"", REF_LONGEST, REFUSED(18, 1)},
+    {"\n", REF_LONGEST, REFUSED(18, 1)},
+    {"cat=48", REF_LONGEST, REFUSED(18, 1)},
+    {"cat=48\n", REF_LONGEST, REFUSED(18, 2)},
+    {"cat=48\nlen=2\nitems=\nend=ok", REF_LONGEST, REFUSED(18, 4)},
+    {"cat=48\nlen=2\nitems=\n", REF_LONGEST, REFUSED(18, 4)},
+    {"cat=48\nlen=2\nitems=\nend=ok\n\n", REF_LONGEST, REFUSED(18, 5)},
+    {"cat=048\nlen=2\nitems=\nend=ok\n", REF_LONGEST, REFUSED(18, 1)},
+    {"cat=48\nlen=1\nitems=\nend=ko\n", REF_LONGEST, REFUSED(18, 2)},
+    {"cat=48\nlen=256\nitems=\nend=ko\n", REF_LONGEST, REFUSED(18, 2)},
+    {"cat=48\nlen=02\nitems=\nend=ko\n", REF_LONGEST, REFUSED(18, 2)},
+    {"cat=48\nlen=255\nitems=\nend=ko\n", REF_LONGEST, REFUSED(18, 4)},
     {"cat=48\nlen=255\nitems=\nend=ok\n", 0, REFUSED(18, 2)},
     {"cat=48\nlen=2\nitems=\nend=ok\n", 1, REFUSED(11, 0)},
     {"cat=48\nlen=2\nitems=\nend=ko\n", 0, REFUSED(18, 4)},
-    {"cat=48\nlen=6\nitems=ERR,M4E\nM4E=3\nERR=65536\nend=ok\n", 52, REFUSED(18, 3)},
-    {"cat=48\nlen=6\nitems=M4E,ERR\nM4E=4\nERR=65536\nend=ok\n", 52, REFUSED(18, 4)},
-    {"cat=48\nlen=6\nitems=M4E,ERR\nM4E=3\nERR=16777216\nend=ok\n", 52, REFUSED(18, 5)},
-    {"cat=48\nlen=5\nitems=M5N\nM5N.chain=1\nM5N.FOM=31\nend=ok\n", 52, REFUSED(18, 5)},
-    {"cat=48\nlen=5\nitems=MD5\nMD5.GA.GA=-40\nMD5.GA.RES=0\nend=ok\n", 52, REFUSED(18, 4)},
-    {"cat=21\nlen=4\nitems=BPS\nBPS=1\nBPS.tenths=8000\nBPS.sense=equal\nend=ok\n", 52, REFUSED(18, 5)},
-    {"cat=21\nlen=4\nitems=BPS\nBPS=1\nBPS.tenths=8001\nBPS.sense=atmost\nend=ok\n", 52, REFUSED(18, 6)},
+    {"cat=48\nlen=6\nitems=ERR,M4E\nM4E=3\nERR=65536\nend=ok\n", REF_LONGEST, REFUSED(18, 3)},
+    {"cat=48\nlen=6\nitems=M4E,ERR\nM4E=4\nERR=65536\nend=ok\n", REF_LONGEST, REFUSED(18, 4)},
+    {"cat=48\nlen=6\nitems=M4E,ERR\nM4E=3\nERR=16777216\nend=ok\n", REF_LONGEST, REFUSED(18, 5)},
+    {"cat=48\nlen=5\nitems=M5N\nM5N.chain=1\nM5N.FOM=31\nend=ok\n", REF_LONGEST, REFUSED(18, 5)},
+    {"cat=48\nlen=5\nitems=MD5\nMD5.GA.GA=-40\nMD5.GA.RES=0\nend=ok\n", REF_LONGEST, REFUSED(18, 4)},
+    {"cat=21\nlen=4\nitems=BPS\nBPS=1\nBPS.tenths=8000\nBPS.sense=equal\nend=ok\n", REF_LONGEST, REFUSED(18, 5)},
+    {"cat=21\nlen=4\nitems=BPS\nBPS=1\nBPS.tenths=8001\nBPS.sense=atmost\nend=ok\n", REF_LONGEST, REFUSED(18, 6)},
 };
 
 static void rebuild_as(const char *row, size_t room, uint64_t word, const struct octets *field)
 {
     struct octets text = letters(row), lent = text, out = filled(room);
-    struct octets after = REF_NUMBER(word) == 0 ? fronted(out, field) : out;
+    struct octets after = REF_NUMBER(word) == REF_ACCEPTED ? fronted(out, field) : out;
     uint64_t got = ref_rebuild(lent.all + GUARD, lent.n, out.all + GUARD, out.n);
     check(got == word, "word of ref_rebuild", row, room);
     check(same_octets(&out, &after), "output of ref_rebuild", row, room);
@@ -560,6 +560,7 @@ static void test_rebuild(void)
         const struct sheet_row *row = sheet_rows + i;
         int accepted = REF_NUMBER(row->rebuilt) == REF_ACCEPTED;
         struct octets field = accepted ? hex(row->input + 3) : nothing;
+        check(REF_CAT(row->rebuilt) == (accepted ? hex(row->input).all[GUARD] : 0u), "category of ref_rebuild", row->text, field.n);
         rebuild_as(row->text, REF_LONGEST, row->rebuilt, &field);
         rebuild_as(row->text, field.n, row->rebuilt, &field);
         rebuild_as(row->text, field.n - (size_t)accepted, accepted ? REFUSED(11, 0) : row->rebuilt, &field);
@@ -572,13 +573,15 @@ static void test_long_text(void)
 {
     static uint8_t text[GUARD + REF_LONGEST_TEXT + 1 + GUARD], before[sizeof text];
     static const char sheet[] = "cat=48\nlen=6\nitems=M4E,ERR\nM4E=3\nERR=65536\nend=ok\n";
-    struct octets out = filled(52), after = out;
-    memset(text, '\n', sizeof text);
+    struct octets out = filled(REF_LONGEST), after = out;
+    memset(text, 0xEE, sizeof text);
+    memset(text + GUARD, '\n', REF_LONGEST_TEXT + 1);
     memcpy(text + GUARD, sheet, sizeof sheet - 1);
     memcpy(before, text, sizeof text);
     uint64_t longest = ref_rebuild(text + GUARD, REF_LONGEST_TEXT, out.all + GUARD, out.n);
     uint64_t longer = ref_rebuild(text + GUARD, REF_LONGEST_TEXT + 1, out.all + GUARD, out.n);
     check(longest == REFUSED(18, 7), "word of ref_rebuild", "the longest text", REF_LONGEST_TEXT);
+    check(REF_NUMBER(longest) == REF_TEXT && REF_LINE(longest) == 7 && REF_CAT(longest) == 0, "parts of the word", "the longest text", 7);
     check(longer == REFUSED(18, 0), "word of ref_rebuild", "a longer text", REF_LONGEST_TEXT + 1);
     check(same_octets(&out, &after), "output of ref_rebuild", "a long text", out.n);
     check(memcmp(text, before, sizeof text) == 0, "text of ref_rebuild", "a long text", sizeof text);

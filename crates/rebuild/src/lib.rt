@@ -1,8 +1,8 @@
 // Rebuilds the octets of a field from its sheet (02, Ask 6): what the text would hold if it were a sheet is written, that field's own sheet is printed, and the
 // two texts are compared.
-// Promises: `rebuild` gives the category and the octets of exactly the sheets of accepted fields, and of every other text the line at which no sheet could still
-// agree; a refusal has category 0 and writes nothing. Stands on taken for what the text holds, on writer, sheet and text for what is printed,
-// on walk and compare for the two texts, and on outputs.
+// Promises: `rebuild` gives the category and the octets of exactly the sheets of accepted fields, and refuses every other text at the line that 02 says, and a
+// sheet by 11 where there is no room; a refusal has category 0 and writes nothing. Stands on taken for what the text holds, on writer, sheet and text for what
+// is printed, on walk and compare for the two texts, and on outputs.
 ghost use mathlib.Core.Path.{_≡_};
 ghost use mathlib.Core.List.{_∷_};
 ghost use Prim.Native.Nat.{ℕ};

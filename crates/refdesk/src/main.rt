@@ -2,7 +2,7 @@
 // A last line without a line feed is answered too. A read or a write that fails ends it, with a line on standard error.
 // Promises: between two reads it holds what is left of the input's last line, and nothing else; what a line is answered is requests' promise. What is
 // read and written nothing can promise.
-// tests/vectors.py makes the lines of `stdin`, and by an implementation of 01 of its own the answers of `stdout`.
+// tests/vectors.py makes the lines of `stdin`, and by an implementation of 01 and 02 of its own the answers of `stdout`.
 ghost use mathlib.Core.Path.{_≡_};
 ghost use Rattle.refdesk.specs.Turns.{Takes};
 

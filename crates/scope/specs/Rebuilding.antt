@@ -23,8 +23,8 @@ areLines zero (o ∷ p) = false
 areLines (suc k) [] = false
 areLines (suc k) (o ∷ p) = pick (eqb o 10) (areLines k p) (areLines (suc k) p)
 
--- the first k lines of both are whole, and are the same: "a last line without its line feed" is not among them, nor is a line of which a text that "merely
--- stops early" has nothing
+-- the first k lines of both are whole, and are the same: neither "a last line without its line feed" nor the line before which a text "merely stops early" is
+-- among them
 pub record Shared (k : ℕ) (s t : List ℕ) : Type 0 where
   pub front : List ℕ
   pub lines-are : T (areLines k front)

@@ -1,4 +1,4 @@
--- A number of a piece is one of a range, so that code needs only a table of two ends.
+-- A number of a piece is one of a range, so that code needs its two ends alone.
 use mathlib.Core.Bool.{Bool, true, _&&_}
 use mathlib.Core.List.{List}
 use Prim.Native.Nat.{ℕ, _^_}
@@ -21,6 +21,6 @@ endsRight (limited lo hi) w = inSigned (2 ^ w) lo && inSigned (2 ^ w) hi
 unfoldable pub between : ℤ → ℤ → ℤ → Bool
 between lo hi z = leZ lo z && leZ z hi
 
--- the number that code takes, lo and hi being looked up
+-- the number that code takes, lo and hi being the two ends
 unfoldable pub rangedIn : ℤ → ℤ → List ℕ → ℤ
 rangedIn lo hi t = pick (between lo hi (wholeIn (valueIn t))) (wholeIn (valueIn t)) (pos 0)

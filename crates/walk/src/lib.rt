@@ -87,7 +87,7 @@ pub fn value<'a>(t: &'a [u8]) -> &'a [u8]
     behind(line(t), b'=')
 }
 
-// The plain decimal that the first line's value is, if it is one from lo to hi, else lo; and of 32 bits with a sign, else 0.
+// The plain decimal that the first line's value is, if it is one from lo to hi, else lo. The same of 32 bits, with a sign or without, else 0.
 pub fn bounded(t: &[u8], lo: u32, hi: u32) -> u64
     ensures { λ r. ⌜ r ≡ boundedIn lo hi (now (t .entry)) ⌝ }
 {
