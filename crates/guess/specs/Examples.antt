@@ -40,6 +40,7 @@ examples =
     ∷ record { read = "cat=48\nlen=7\nitems=M4E,ERR\nM4E=3\nERR=65536\nend=ok\n"; room = 300; answer = refused 18 2 }
     ∷ record { read = "cat=48\nlen=06\nitems=M4E,ERR\nM4E=3\nERR=65536\nend=ok\n"; room = 300; answer = refused 18 2 }
     ∷ record { read = "cat=48\nlen=7\nitems=M4E,ERR\nM4E=4\nERR=65536\nend=ok\n"; room = 300; answer = refused 18 4 }
+    ∷ record { read = "cat=48\nlen=6\nitems=M4E,ERR\nM4E=4\nERR=65536\nend=ok\n"; room = 0; answer = refused 18 4 }
     ∷ record { read = "cat=48\nlen=1\nitems=M4E,ERR\nM4E=4\nERR=65536\nend=ok\n"; room = 300; answer = refused 18 2 }
     ∷ record { read = "cat=48\nlen=6\nitems=M4E,ERR\nM4E=3\nERR=16777216\nend=ok\n"; room = 300; answer = refused 18 5 }
     ∷ record { read = "cat=48\nlen=6\nitems=M4E,ERR\nM4E=3\nERR=65536\nend=ko\n"; room = 300; answer = refused 18 6 }
