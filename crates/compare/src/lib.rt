@@ -1,5 +1,5 @@
 // Two texts beside each other: whether one begins with the other, and the first line in which they differ.
-// Promises: each is one equation of guess's definitions, for any two texts. Stands on nothing.
+// Promises: each is one equation of guess's definitions, for any two texts. Stands on no code.
 ghost use mathlib.Core.Path.{_≡_};
 ghost use Prim.Native.Nat.{_<_};
 ghost use Rattle.guess.specs.Guess.{begins, firstWrong};
