@@ -1,7 +1,7 @@
 """Runs the programs that bench/run built on its corpora and prints the tables of docs/BENCH.md.
 
-Instructions are x86-64 ones. Where both sides are emulated, the emulator logs each that it executes; on x86-64 they are
-counted by `perf stat`, or by valgrind where perf can't.
+Instructions are x86-64 ones. An emulator logs each that it executes: the kit's, or on x86-64 the qemu-x86_64 of Debian's
+qemu-user; without one, `perf stat` counts them there.
 """
 import bisect
 import os
@@ -26,7 +26,8 @@ CORPORA = {"read": {**FIELDS, **REFUSED}, "write": {**FIELDS, "bad-records": "re
            "sheet": {**FIELDS, **REFUSED}}
 TARGET = {"read": 3.0, "edit": 3.0}  # times the instructions of plain C on mixed fields, at most
 REP = 31  # instructions of rep.s
-SLACK = 16 if NATIVE else 0  # a processor's counter may count an instruction again that met a page fault
+SLACK = 0 if programs.EMULATOR else 16  # a processor's counter may count an instruction again that met a page fault
+STEP_BY_STEP = "-singlestep" if NATIVE else "-one-insn-per-tb"  # the same option of qemu 7.2 and of the kit's 8.2
 
 
 def run(side, operation, corpus, *more):
@@ -44,7 +45,7 @@ def agree(operation, corpus):
 
 def count_emulated(command):
     """A repeated string instruction is logged at each step; no other follows itself, so a run of one counts once."""
-    logged = programs.started(command, "-one-insn-per-tb", "-d", "exec,nochain")
+    logged = programs.emulated(command, STEP_BY_STEP, "-d", "exec,nochain")
     log = subprocess.Popen(logged, stdout=subprocess.DEVNULL, stderr=subprocess.PIPE)
     counting = "/^Trace/ { if ($2 != last) n[$2]++; last = $2 } END { for (k in n) print k, n[k] }"
     told = subprocess.run(["awk", "-F/", counting], stdin=log.stderr, check=True, capture_output=True, text=True).stdout
@@ -59,22 +60,14 @@ def count_by_perf(command):
     return {0: int(told.split(",")[0])}
 
 
-def count_by_valgrind(command):
-    counting = ["valgrind", "--tool=callgrind", "--callgrind-out-file=/dev/null", *programs.started(command)]
-    told = subprocess.run(counting, check=True, capture_output=True, text=True).stderr
-    return {0: int(re.search(r"Collected : (\d+)", told)[1])}
-
-
 def chosen_counter():
-    if not NATIVE:
+    if programs.EMULATOR:
         return count_emulated
     if shutil.which("perf"):
         trial = subprocess.run(["perf", "stat", "-x,", "-e", "instructions:u", "true"], capture_output=True, text=True)
         if trial.returncode == 0 and re.match(r"\d+,", trial.stderr):
             return count_by_perf
-    if shutil.which("valgrind"):
-        return count_by_valgrind
-    raise SystemExit("bench: neither perf nor valgrind counts instructions on this machine")
+    raise SystemExit("bench: no qemu-x86_64 and no perf that counts instructions on this machine")
 
 
 def tried_counter():
@@ -222,7 +215,7 @@ def main():
     length_table(instructions)
     count_table()
     verdict(found)
-    if not NATIVE:
+    if programs.EMULATOR:
         function_list(found)
 
 

@@ -1,6 +1,7 @@
 """The programs that bench/run built for x86-64 and how they are started: natively there, else by the kit's emulator."""
 import pathlib
 import platform
+import shutil
 import subprocess
 
 WORK = pathlib.Path(__file__).resolve().parent.parent / "target" / "bench"
@@ -8,7 +9,7 @@ GUIDE = subprocess.run(["rt", "doc"], check=True, capture_output=True, text=True
 KIT = pathlib.Path(GUIDE).parent.parent
 LIB = KIT / "toolchain" / "lib"
 NATIVE = platform.machine() == "x86_64"
-EMULATOR = KIT / "on" / platform.machine() / "toolchain" / "bin" / "qemu-x86_64"
+EMULATOR = shutil.which("qemu-x86_64") if NATIVE else KIT / "on" / platform.machine() / "toolchain" / "bin" / "qemu-x86_64"
 OPERATIONS = ("read", "write", "view", "edit", "sheet")
 SIDES = ("plain", "ours")
 
@@ -18,9 +19,14 @@ def driver(side, operation, corpus, *more):
     return [LIB / "ld-linux-x86-64.so.2", "--library-path", LIB, WORK / side, operation, corpus, *map(str, more)]
 
 
-def started(command, *options):
-    """A command for x86-64 as this machine runs it; the options are the emulator's."""
-    return list(map(str, command if NATIVE else [EMULATOR, *options, *command]))
+def emulated(command, *options):
+    """A command for x86-64 by the emulator, with options of its own."""
+    return list(map(str, [EMULATOR, *options, *command]))
+
+
+def started(command):
+    """A command for x86-64 as this machine runs it."""
+    return list(map(str, command)) if NATIVE else emulated(command)
 
 
 def told(command):

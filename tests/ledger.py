@@ -29,7 +29,7 @@ PROMISES = [
     ("lengths", "`format_of`"),
     ("shapes", "`shape_at`"),
     ("spots", "`spot_at`, `spot_of`"),
-    ("reader", "`read`, `survey`"),
+    ("reader", "`read`, `read_into`, `survey`, `is_item`"),
     ("views", "`view_answer`, `view`, `choose_answer`, `choose`"),
     ("angle", "`exact`"),
     ("writer", "`write`"),

@@ -1,14 +1,14 @@
-// The record as an array of 87 numbers, as it crosses to C: filled by a reading, and written.
+// The record as an array of 87 numbers, as it crosses to C: filled by reading a field, and written.
 // Promises: the answer, and every element of lent memory afterwards; an array that has not 87 places is refused, and a refusal writes nothing.
-// Stands on writer.
+// Stands on reader, which reads the numbers into the array itself, and on writer.
 ghost use mathlib.Core.Path.{_≡_};
 ghost use mathlib.Core.List.{map};
 ghost use lib.IntN.{pos};
 ghost use lib.ListN.{length};
 ghost use Rattle.scope.specs.Outputs.{Leaves};
-ghost use Rattle.interface.specs.Arrays.{PLACES, arrayOf, Filled, isOctet, areOctets, octetOf, ofArray, writeArray};
+ghost use Rattle.scope.specs.Reading.{readOf};
+ghost use Rattle.interface.specs.Arrays.{PLACES, Filled, isOctet, areOctets, octetOf, ofArray, writeArray};
 use layout::Answer;
-use layout::Reading;
 use layout::Record;
 use layout::SLOTS;
 
@@ -88,19 +88,6 @@ fn copy(from: &[i32], to: &mut [i32])
     }
 }
 
-// A record into its array.
-fn fill(kept: Record, out: &mut [i32])
-    requires { ⌜ length (now out) ≡ PLACES ⌝ }
-    ensures { λ _. ⌜ now (out .exit) ≡ arrayOf kept ⌝ }
-{
-    let parts = kept.parts;
-    let numbers = kept.numbers;
-    out[0] = signed(kept.cat);
-    out[1] = signed(kept.items);
-    widen(&parts[..], &mut out[2..10]);
-    copy(&numbers[..], &mut out[10..]);
-}
-
 // The record of an array.
 fn record_of(a: &[i32]) -> Record
     requires { ⌜ length (now a) ≡ PLACES ⌝ }
@@ -134,18 +121,20 @@ pub fn write_array(a: &[i32], out: &mut [u8]) -> Answer
     Answer::Refused(10, 0)
 }
 
-// The record of a reading into an array, unless the field or the array is refused.
-pub fn read_array(reading: Reading, out: &mut [i32]) -> Answer
-    ensures { λ r. ⌜ Filled reading (now (out .entry)) r (now (out .exit)) ⌝ }
+// The record of a field into an array, unless the field or the array is refused: an array of another length lends no places.
+pub fn read_array(cat: u8, field: &[u8], out: &mut [i32]) -> Answer
+    ensures { λ r. ⌜ Filled (readOf cat (now (field .entry))) (now (out .entry)) r (now (out .exit)) ⌝ }
 {
-    let a = reading.answer;
-    let Answer::Accepted(_) = a else {
-        return a;
-    };
+    let mut parts = [0u8; 8];
     if out.len() == PLACES {
-        let kept = reading.kept;
-        fill(kept, &mut *out);
+        let a = reader::read_into(cat, field, &mut parts, &mut out[10..]);
+        let Answer::Accepted(_) = a else {
+            return a;
+        };
+        out[0] = signed(cat);
+        out[1] = signed(field[1]);
+        widen(&parts[..], &mut out[2..10]);
         return a;
     }
-    Answer::Refused(11, 0)
+    reader::read_into(cat, field, &mut parts, &mut out[..0])
 }

@@ -2,13 +2,13 @@
 // Promises: `remove` and `replace` answer and leave what 01 defines, for every input: the field written afresh with that one item changed, or a refusal that writes nothing.
 // Stands on reader and outputs, which it knows by their contracts.
 ghost use mathlib.Core.Path.{_≡_};
-ghost use Prim.Native.Nat.{_+_, _-_, _≤_, _<_};
-ghost use lib.ListN.{length, set};
+ghost use Prim.Native.Nat.{_+_, _-_, _≤_};
+ghost use lib.ListN.{length};
 ghost use lib.Seq.{sets};
 ghost use Rattle.codec.specs.Change.{remove, put};
 ghost use Rattle.scope.specs.Outputs.{withRoom, Leaves};
 ghost use Rattle.scope.specs.Desk.{Edited};
-ghost use Rattle.desk.specs.Asking.{askedOf, acceptedIs, rightOf};
+ghost use Rattle.desk.specs.Asking.{askedOf};
 ghost use Rattle.desk.specs.Splicing.{spliceOf};
 ghost use Rattle.desk.specs.Edits.{allowedOf, Exchangeable, exchangeOf};
 use layout::Answer;
@@ -33,35 +33,6 @@ fn paste(from: &[u8], at: usize, octets: &mut [u8])
     ensures { λ _. ⌜ now (octets .exit) ≡ sets (now (octets .entry)) at (now (from .entry)) ⌝ }
 {
     bytes::copy(from, &mut octets[at..]);
-}
-
-fn is_accepted(a: Answer) -> bool
-    ensures { λ r. ⌜ r ≡ acceptedIs a ⌝ }
-{
-    match a {
-        Answer::Accepted(_) => true,
-        Answer::Refused(_, _) => false,
-    }
-}
-
-// Whether new octets are right for the item of index i: LEN, an indicator with that one bit and these octets are a field.
-fn right(cat: u8, i: usize, new: &[u8]) -> bool
-    ensures { λ r. ⌜ r ≡ rightOf cat i (now (new .entry)) ⌝ }
-{
-    let n = new.len();
-    if n == 0 {
-        return false;
-    }
-    if 253 < n {
-        return false;
-    }
-    let mut octets = [0u8; 255];
-    octets[0] = leaves::octet(n + 2);
-    octets[1] = flags::with_item(0, i);
-    paste(new, 2, &mut octets);
-    let found = reader::survey(cat, &octets[..n + 2]);
-    let a = found.answer;
-    is_accepted(a)
 }
 
 // A field with its octets from a place to another exchanged for new ones, and another indicator.
@@ -104,7 +75,7 @@ fn allowed(cat: u8, field: &[u8], list: u8, item: u8) -> Surveyed
 fn exchanged(
     field: &[u8],
     len: usize,
-    starts: [usize; 9],
+    starts: [u8; 9],
     item: u8,
     items: u8,
     new: &[u8],
@@ -114,8 +85,8 @@ fn exchanged(
     ensures { λ r. ⌜ Leaves (withRoom (length (now (out .entry))) (exchangeOf items (now (field .entry)) len starts item (now (new .entry)))) (now (out .entry)) r (now (out .exit)) ⌝ }
 {
     let i = leaves::wide(item);
-    let from = starts[i - 1];
-    let to = starts[i];
+    let from = leaves::wide(starts[i - 1]);
+    let to = leaves::wide(starts[i]);
     spliced(&field[..len], items, from, to, new, &mut *out)
 }
 
@@ -143,7 +114,7 @@ pub fn replace(cat: u8, field: &[u8], list: u8, item: u8, new: &[u8], out: &mut 
         return a;
     };
     let i = flags::index(item);
-    if right(cat, i, new) {
+    if reader::is_item(cat, i, new) {
         let starts = found.starts;
         let items = flags::with_item(found.items, i);
         return exchanged(field, len, starts, item, items, new, &mut *out);

@@ -1,6 +1,6 @@
 // The C interface: each operation as a function that a program in C calls, declared in include/refdesk.h.
 // Promises: the word that is answered, and every element of lent memory afterwards, are those of the definitions of 01 and 02, for every input; a refusal writes nothing.
-// Stands on reader, arrays, views, desk, visitors, sheet and rebuild, which it knows by their contracts.
+// Stands on arrays, views, desk, visitors, sheet and rebuild, which it knows by their contracts.
 ghost use mathlib.Core.Path.{_≡_};
 ghost use lib.ListN.{length};
 ghost use Rattle.codec.specs.Change.{remove, put};
@@ -60,8 +60,7 @@ fn side_word(which: u8, v: View) -> u64
 pub extern "C" fn ref_read(cat: u8, field: &[u8], out: &mut [i32]) -> u64
     ensures { λ r. ⌜ Fills (readOf cat (now (field .entry))) (now (out .entry)) r (now (out .exit)) ⌝ }
 {
-    let found = reader::read(cat, field);
-    let done = arrays::read_array(found, &mut *out);
+    let done = arrays::read_array(cat, field, &mut *out);
     answer_word(done)
 }
 

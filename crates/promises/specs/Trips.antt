@@ -21,15 +21,15 @@ use Rattle.papers.specs.Cat048.{cat048}
 use Rattle.papers.specs.Cat021.{cat021}
 use Rattle.papers.specs.Cat007.{cat007}
 use Rattle.papers.specs.Papers.{paperOf, SLOTS, allSlots}
-use Rattle.papers.specs.Laws.Papers.{by-paper, few-items, few-slots}
+use Rattle.papers.specs.Laws.Papers.{by-paper, few-slots}
 use Rattle.layout.specs.declared.Record.{Record}
 use Rattle.layout.specs.declared.Answer.the-variants.{Accepted}
 use Rattle.layout.specs.Record.{allParts, allNumbers, flatten}
-use Rattle.layout.specs.Laws.Record.{length-parts, length-numbers}
+use Rattle.layout.specs.Laws.Record.{length-numbers}
 use Rattle.scope.specs.Reading.{readOf}
 use Rattle.scope.specs.Writing.{writeOf, Wrote}
 use Rattle.scope.specs.Outputs.{answerOf, after}
-use Rattle.scope.specs.Laws.Reading.{read-found, read-okay}
+use Rattle.scope.specs.Laws.Reading.{read-found, read-okay, read-parts}
 use Rattle.demands.specs.RoundTrips.{written-reads, read-writes}
 use Rattle.interface.specs.Packed.{answerWord, Hands}
 use Rattle.interface.specs.Arrays.{PLACES, arrayOf, fillAnswer, filledBy, ofArray, writeArray, Fills}
@@ -110,13 +110,12 @@ module _ (cat : ℕ) (small : cat < 256) (s : List ℕ) (o : Octets s) {n : ℕ}
       let b : T ((body its) .okay x) = read-okay o r in
       let k : T ((row (flags (x .0)) its) .okay (x .1)) = row-okay its x b in
       let i : T (ltb (x .0) 256) = and-l (ltb (x .0) 256) _ (and-l ((number 1) .okay (x .0)) _ (and-l ((indicator its) .okay (x .0)) _ b)) in
-      let lp : length (allParts (x .1)) ≡ length its = length-parts (flags (x .0)) its (x .1) k in
       let ln : length (allNumbers (x .1)) ≡ allSlots its = length-numbers (flags (x .0)) its (x .1) k in
       subst Sized (sym (r .kept-is)) (record {
         cat-octet = small;
         items-octet = ltb→lt (x .0) 256 i;
         parts-octets = octets-++ (allParts (x .1)) (replicate (8 - length its) 0) (row-few (flags (x .0)) its (x .1) (few-parts cat) k) (zeros-octets (8 - length its));
-        parts-many = omega (arith, length-append (allParts (x .1)) (replicate (8 - length its) 0), length-replicate {A = ℕ} (8 - length its) 0, lp, few-items cat);
+        parts-many = ap (λ (f : Record). length (f .parts)) (sym (r .kept-is)) ∙ read-parts cat s o n e;
         numbers-many = omega (arith, length-append (allNumbers (x .1)) (replicate (SLOTS - allSlots its) (pos 0)), length-replicate {A = ℤ} (SLOTS - allSlots its) (pos 0), ln, few-slots cat);
       })
 

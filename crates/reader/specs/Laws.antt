@@ -1,10 +1,21 @@
 -- What follows from the definitions, for the proofs of the functions.
 pub mod Numbers
+pub mod Limits
 pub mod Lines
 pub mod Walk
 pub mod Chains
 pub mod Items
+pub mod Seen
+pub mod Tables
+pub mod Parts
+pub mod Onward
+pub mod Looked
+pub mod Taking
 pub mod Rows
+pub mod Places
 pub mod Fields
+pub mod Closed
 pub mod Whole
 pub mod Surveys
+pub mod Takings
+pub mod Alone

@@ -6,4 +6,7 @@ pub mod Chains
 pub mod Items
 pub mod Rows
 pub mod Fields
+pub mod Seen
+pub mod Places
+pub mod Taking
 pub mod Laws

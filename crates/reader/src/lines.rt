@@ -1,28 +1,22 @@
-// One line of the papers, a chain part or a subfield, read by its format of the table into the slots of the record.
-// Promises: `line` answers what the codec of the line answers at that place, and puts its numbers there. Stands on lengths.
+// One line of the papers, a chain part or a subfield, tried by its format of the table: its octets, its spare bits, the limits of its numbers.
+// Promises: `seen` answers where the codec of the line ends at that place, or its refusal. Stands on lengths.
 ghost use mathlib.Core.Path.{_≡_};
 ghost use Prim.Native.Nat.{_+_, _-_, _*_, _^_, _/_, _%_, _≤_, _<_};
-ghost use lib.Dec.{T};
-ghost use lib.ListN.{length, take, drop, set};
-ghost use lib.Seq.{sets};
-ghost use Rattle.codec.specs.Pick.{pick};
+ghost use lib.Dec.{T, ltb};
+ghost use lib.ListN.{length, take, drop};
 ghost use Rattle.codec.specs.Signed.{toSigned};
 ghost use Rattle.codec.specs.Radix.{join, eights};
 ghost use Rattle.codec.specs.Line.{toNum, limit, inLimits};
-ghost use Rattle.lengths.specs.Lines.{firstAt, countAt, kindOf, piecesFrom, narrow};
-ghost use Rattle.reader.specs.Numbers.{inside, numsAt, Took};
-ghost use Rattle.reader.specs.Steps.{stepOf, afterOf, lineRun};
-ghost use Rattle.papers.specs.Papers.{SLOTS};
-use layout::Numbers;
+ghost use Rattle.lengths.specs.Lines.{kindOf, piecesFrom, narrow};
+ghost use Rattle.reader.specs.Numbers.{inside, numsAt, pieceFits};
+ghost use Rattle.reader.specs.Seen.{Ends};
+ghost use Rattle.reader.specs.Steps.{lineRun};
 
-// How far reading came: FX of a part or the parts of a chain, and the next place; or a refusal and its place.
-pub enum Step {
-    Next(u8, usize),
-    Refused(u8, usize),
-}
+// In a step that is one number: a refusal's number counts so much, and its place is below.
+pub const BAD: usize = 65536;
 
 // k octets from a place on, as one number.
-fn octets(s: &[u8], at: usize, k: usize) -> u64
+pub fn octets(s: &[u8], at: usize, k: usize) -> u64
     requires { ⌜ (k ≤ length (now s) - at) × (k ≤ 6) ⌝ }
     ensures { λ r. ⌜ (r ≡ join (eights k) (take k (drop at (now (s .entry))))) × (r < 2 ^ (8 * k)) ⌝ }
 {
@@ -43,7 +37,7 @@ fn power(w: u64) -> u64
 }
 
 // The lowest w bits.
-fn low(n: u64, w: u64) -> u64
+pub fn low(n: u64, w: u64) -> u64
     requires { ⌜ w < 32 ⌝ }
     ensures { λ r. ⌜ r ≡ n % 2 ^ w ⌝ }
 {
@@ -62,7 +56,7 @@ fn signed(d: u64, full: u64) -> i32
 }
 
 // The number of w bits d, by its kind.
-fn number(d: u64, w: u64, kind: u64) -> i32
+pub fn number(d: u64, w: u64, kind: u64) -> i32
     requires { ⌜ (d < 2 ^ w) × (w ≤ 24) ⌝ }
     ensures { λ r. ⌜ r ≡ toNum (kindOf kind) w d ⌝ }
 {
@@ -72,7 +66,7 @@ fn number(d: u64, w: u64, kind: u64) -> i32
     signed(d, power(w))
 }
 
-pub fn between(z: i32, lo: i32, hi: i32) -> bool
+fn between(z: i32, lo: i32, hi: i32) -> bool
     ensures { λ r. ⌜ r ≡ inside lo hi z ⌝ }
 {
     if lo <= z {
@@ -94,73 +88,60 @@ fn fits(z: i32, kind: u64) -> bool
     between(z, -40, 8191)
 }
 
-fn put(numbers: &mut Numbers, at: usize, z: i32)
-    requires { ⌜ at < SLOTS ⌝ }
-    ensures { λ _. ⌜ now (numbers .exit) ≡ set (now (numbers .entry)) at z ⌝ }
+// Whether the number of one piece is within the limits of its kind; bits that hold no number have none.
+fn piece_fits(n: u64, next: u64, w: u64, kind: u64) -> bool
+    requires { ⌜ (w < 32) × (next < 64) × ((kind ≡ 0 → ⊥) → w ≤ 24) ⌝ }
+    ensures { λ r. ⌜ r ≡ pieceFits kind w n next ⌝ }
 {
-    numbers[at] = z;
+    if kind < 3 {
+        return true;
+    }
+    fits(number(low(n >> next, w), w, kind), kind)
 }
 
-// The number of one piece into its slot: the slots that it took, 0 where the bits hold none; 2 for a number outside the limits of its kind.
-fn piece(numbers: &mut Numbers, n: u64, next: u64, w: u64, kind: u64, slot: usize) -> usize
-    requires { ⌜ (w < 32) × (next < 64) × ((kind ≡ 0 → ⊥) → (w ≤ 24) × (slot < SLOTS)) ⌝ }
-    ensures { λ r. ⌜ Took kind w n next slot (now (numbers .entry)) r (now (numbers .exit)) ⌝ }
-{
-    if kind == 0 {
-        return 0;
-    }
-    let z = number(low(n >> next, w), w, kind);
-    let ok = fits(z, kind);
-    if ok {
-        put(&mut *numbers, slot, z);
-        return 1;
-    }
-    2
-}
-
-// The numbers of the pieces that lie below bit shift of n, as long as they are within their limits.
-fn store(numbers: &mut Numbers, n: u64, shift: u64, code: u64, left: usize, slot: usize) -> bool
-    requires { ⌜ (slot + left ≤ 1000) × (slot + length (numsAt (piecesFrom left code) n shift) ≤ SLOTS) × (shift ≤ 48) × T (narrow (piecesFrom left code)) ⌝ }
-    ensures answer { λ r. ⌜ r ≡ inLimits (piecesFrom left code) (numsAt (piecesFrom left code) n shift) ⌝ }
-    ensures kept { λ r. ⌜ now (numbers .exit) ≡ pick r (sets (now (numbers .entry)) slot (numsAt (piecesFrom left code) n shift)) (now (numbers .exit)) ⌝ }
+// Whether the numbers of the pieces that lie below bit shift of n are within their limits.
+fn within(n: u64, shift: u64, code: u64, left: usize) -> bool
+    requires { ⌜ (shift ≤ 48) × T (narrow (piecesFrom left code)) ⌝ }
+    ensures { λ r. ⌜ r ≡ inLimits (piecesFrom left code) (numsAt (piecesFrom left code) n shift) ⌝ }
 {
     if left == 0 {
         return true;
     }
     let w = code % 256 % 32;
     let next = leaves::less64(shift, w);
-    let more = piece(&mut *numbers, n, next, w, code % 256 / 32, slot);
-    if more == 2 {
-        return false;
+    if piece_fits(n, next, w, code % 256 / 32) {
+        return within(n, next, code / 256, left - 1);
     }
-    store(&mut *numbers, n, next, code / 256, left - 1, slot + more)
+    false
 }
 
-// Line b at a place of the field; the slots of its item begin at base.
-pub fn line(s: &[u8], at: usize, b: usize, base: usize, numbers: &mut Numbers) -> Step
-    requires { ⌜ base + (firstAt b + countAt b) ≤ SLOTS ⌝ }
-    ensures answer { λ r. ⌜ r ≡ stepOf (lineRun b (now (s .entry)) at) ⌝ }
-    ensures kept { λ _. ⌜ now (numbers .exit) ≡ afterOf (now (numbers .entry)) (base + firstAt b) (now (numbers .exit)) (lineRun b (now (s .entry)) at) ⌝ }
+// Whether k octets are more than stand in len from a place on.
+fn short(len: usize, at: usize, k: usize) -> bool
+    requires { ⌜ (at < 65_536) × (k ≤ 6) ⌝ }
+    ensures { λ r. ⌜ r ≡ ltb (len - at) k ⌝ }
+{
+    if k == 0 {
+        return false;
+    }
+    len < at + k
+}
+
+// Line b at a place of the field: the next place, or the refusal.
+pub fn seen(s: &[u8], at: usize, b: usize) -> usize
+    requires { ⌜ (length (now s) < 65_536) × (at < 65_536) ⌝ }
+    ensures { λ r. ⌜ Ends (lineRun b (now (s .entry)) at) r ⌝ }
 {
     let format = lengths::format_of(b);
     let k = format.octets;
-    if leaves::less(s.len(), at) < k {
-        return Step::Refused(5, at);
+    if short(s.len(), at, k) {
+        return 5 * BAD + at;
     }
     let n = octets(s, at, k);
     if n & format.spare == 0 {
-        let ok = store(
-            &mut *numbers,
-            n,
-            (8 * k) as u64,
-            format.pieces,
-            format.runs,
-            base + format.first,
-        );
-        if ok {
-            return Step::Next(leaves::octet64(low(n, format.below)), at + k);
+        if within(n, (8 * k) as u64, format.pieces, format.runs) {
+            return at + k;
         }
-        return Step::Refused(8, at);
+        return 8 * BAD + at;
     }
-    Step::Refused(6, at)
+    6 * BAD + at
 }

@@ -15,15 +15,15 @@ use layout::View;
 use layout::Which;
 
 // Where an item of a category stands in an accepted field, by its indicator and where each item begins.
-fn standing(cat: u8, items: u8, starts: [usize; 9], item: u8) -> View
+fn standing(cat: u8, items: u8, starts: [u8; 9], item: u8) -> View
     requires { ⌜ Rising cat starts ⌝ }
     ensures { λ r. ⌜ r ≡ standsAt cat items starts item ⌝ }
 {
     if layout::is_item(cat, item) {
         let i = leaves::wide(item);
         if flags::present(items, i - 1) {
-            let from = starts[i - 1];
-            let to = starts[i];
+            let from = leaves::wide(starts[i - 1]);
+            let to = leaves::wide(starts[i]);
             return View::Shown(from, to - from);
         }
         return View::Hidden(15, 0);

@@ -7,19 +7,23 @@ use Rattle.desk.proofs.exchanged.Tie as tie
 
 spliced-requires : tie.Need-spliced-requires
 spliced-requires c κs =
-    let w = c .before .before in
+    let y = c .before .before in
+    let x = y .before in
+    let w = x .before in
     let s = w .before .before .before .before in
     let a = s .args in
-    exchange-parts (now (a .field)) (a .len) (a .t3) (a .item) (now (a .new)) (w .wide .ensures .0) (s .pre)
+    exchange-parts (now (a .field)) (a .len) (a .t3) (a .item) (now (a .new)) (w .wide .ensures .0) (x .wide2 .ensures .0) (y .wide3 .ensures .0) (s .pre)
 
 returns : tie.Need-returns
 returns c =
     let d = c .before .before in
-    let w = d .before .before .before in
+    let y = d .before .before .before in
+    let x = y .before in
+    let w = x .before in
     let a = w .before .before .before .before .args in
-    exchange-leaves (now (a .field)) (a .len) (a .t3) (a .item) (now (a .new)) (w .wide .ensures .0) (a .items) (d .spliced .ensures)
+    exchange-leaves (now (a .field)) (a .len) (a .t3) (a .item) (now (a .new)) (w .wide .ensures .0) (x .wide2 .ensures .0) (y .wide3 .ensures .0) (a .items) (d .spliced .ensures)
 
 pub exchanged-spec : {M : Type 1} → statement M
 exchanged-spec =
     tie.close
-    (tie.spec (λ c κs. search needs) (λ c. search needs) (λ c. search needs) (λ c. search needs) (λ c. search needs) (λ c. search needs) (λ c. search needs) spliced-requires (λ c. search needs) returns)
+    (tie.spec (λ c κs. search needs) (λ c. search needs) (λ c. search needs) (λ c κs. search needs) (λ c. search needs) (λ c κs. search needs) (λ c. search needs) spliced-requires (λ c. search needs) returns)

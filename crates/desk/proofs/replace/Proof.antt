@@ -9,8 +9,8 @@ use Rattle.codec.specs.Change.{put, setFlag}
 use Rattle.codec.specs.Laws.Change.{newOctets, newFlag}
 use Rattle.scope.specs.Laws.Outputs.{refused-left}
 use Rattle.codec.specs.Laws.Codec.{octets-all}
-use Rattle.desk.specs.Asking.{rightOf}
-use Rattle.desk.specs.Laws.Edits.{allowed-found, allowed-fell, edit-wrong, edit-right, exchange-asks, edit-made}
+use Rattle.scope.specs.Desk.{rightOf}
+use Rattle.desk.specs.Laws.Edits.{allowed-found, allowed-fell, item-asked, edit-wrong, edit-right, exchange-asks, edit-made}
 use Rattle.desk.proofs.replace.Statement.{statement}
 use Rattle.desk.proofs.replace.Tie as tie
 
@@ -21,12 +21,15 @@ returns c =
     refused-left (allowed-fell (a .cat) (now (a .field)) (a .list) (a .item) (v .allowed .ensures) (c .enum-told .given .1) (put (now (a .new))) (length (now (a .out)))) (now (a .out)) (c .enum-told .given .1)
 
 -- whether the new octets are right was asked of the item's index
-told : (c : tie.After-right)
-    → (let a = c .before .before .before .before .before .before .before .before .before .args in c .right .result ≡ rightOf (a .cat) (a .item - 1) (now (a .new)))
+told : (c : tie.After-is-item)
+    → (let a = c .before .before .before .before .before .before .before .before .before .args in c .is-item .result ≡ rightOf (a .cat) (a .item - 1) (now (a .new)))
 told c =
     let i = c .before in
-    let a = i .before .before .before .before .before .before .before .before .args in
-    c .right .ensures ∙ ap (λ j. rightOf (a .cat) j (now (a .new))) (i .index .ensures)
+    let e = i .before .before in
+    let v = e .before .before in
+    let a = v .before .before .before .before .args in
+    let f = allowed-found (a .cat) (now (a .field)) (a .list) (a .item) (v .allowed .ensures) (e .a .given .1) in
+    item-asked (a .cat) (now (a .field)) (f .0) (e .a .given .1) (a .list) (a .item) refl (f .1) (now (a .new)) (i .index .ensures) (c .is-item .ensures)
 
 exchanged-requires : tie.Need-exchanged-requires
 unfolding newOctets

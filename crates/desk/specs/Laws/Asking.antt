@@ -1,23 +1,16 @@
--- 12, 13 and 14: what the desk asks of an edit beside the field.
+-- 12 and 13: what the desk asks of an edit beside the field.
 use mathlib.Core.Path.{_≡_, refl, sym, ap, _∙_}
 use mathlib.Core.Bool.{Bool, true, false}
-use mathlib.Core.List.{List}
-use Prim.Native.Nat.{ℕ, _-_, _≤_, _<_}
+use Prim.Native.Nat.{ℕ, _-_}
 use native.Mathlib.Omega.{arith}
-use borrow.Author.Tests.{le-leb, lt-leb}
-use lib.Dec.{leb, eqb}
-use lib.ListN.{length, getD}
+use lib.Dec.{eqb}
+use lib.ListN.{getD}
 use Rattle.codec.specs.Pick.{pick}
-use Rattle.codec.specs.Field.{flags, Contents}
-use Rattle.codec.specs.Frame.{Outcome, accepted, refused}
-use Rattle.codec.specs.Change.{alone}
+use Rattle.codec.specs.Field.{flags}
 use Rattle.papers.specs.Papers.{paperOf, numbered}
-use Rattle.scope.specs.Reading.{fieldOf}
 use Rattle.scope.specs.Views.{isItem}
 use Rattle.scope.specs.Desk.{listed}
-use Rattle.layout.specs.declared.Surveyed.{Surveyed}
-use Rattle.scope.specs.Survey.{surveyed, surveyOf}
-use Rattle.desk.specs.Asking.{askedOf, isAccepted, acceptedIs, rightOf}
+use Rattle.desk.specs.Asking.{askedOf}
 
 module _ (cat list item : ℕ) {b : Bool} (eb : b ≡ numbered cat item) where
   pub asked-none : b ≡ false → 12 ≡ askedOf cat list item
@@ -50,25 +43,3 @@ asked-right cat list item e = go (isItem (paperOf cat) item) refl (listed list i
     go true ex true ey h = (ex, ey)
     go true ex false ey h = absurd (omega arith)
     go false ex y ey h = absurd (omega arith)
-
-module _ (cat i : ℕ) (t : List ℕ) where
-  pub right-none : length t ≡ 0 → false ≡ rightOf cat i t
-  unfolding rightOf
-  right-none e = rw (lt-leb 1 (length t) (omega arith)) refl
-
-  pub right-long : 253 < length t → false ≡ rightOf cat i t
-  unfolding rightOf
-  right-long h = rw (le-leb 1 (length t) (omega arith), lt-leb (length t) 253 h) refl
-
-  module _ (lo : length t ≡ 0 → ⊥) (hi : length t ≤ 253) {s : List ℕ} (es : s ≡ alone i t) {v : Surveyed} (ev : v ≡ surveyOf cat s) where
-    right-by : rightOf cat i t ≡ isAccepted (fieldOf cat s)
-    unfolding rightOf
-    right-by = rw (le-leb 1 (length t) (omega arith), le-leb (length t) 253 hi) (ap (λ x. isAccepted (fieldOf cat x)) (sym es))
-
-    pub right-is : {b : Bool} → b ≡ acceptedIs (v .answer) → b ≡ rightOf cat i t
-    unfolding surveyOf surveyed
-    right-is {b} e = e ∙ ap (λ (x : Surveyed). acceptedIs (x .answer)) ev ∙ go (fieldOf cat s) ∙ sym right-by
-      where
-        go : (o : Outcome Contents) → acceptedIs ((surveyed cat s o) .answer) ≡ isAccepted o
-        go (accepted r) = refl
-        go (refused m p) = refl

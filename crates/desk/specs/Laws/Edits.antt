@@ -1,10 +1,11 @@
 -- The ways out of the desk: each answers what 01 defines.
-use mathlib.Core.Path.{_≡_, refl, sym, ap, ap₂, _∙_, subst}
+use mathlib.Core.Path.{_≡_, refl, sym, ap, ap₂, _∙_, subst, subst₂}
 use mathlib.Core.Bool.{Bool, true, false, _&&_}
 use mathlib.Core.List.{List, [], _∷_, _++_, head-eq-of-cons-eq}
 use Prim.Native.Nat.{ℕ, zero, suc, _+_, _-_, _≤_, _<_}
 use native.Mathlib.Nat.{le-trans}
 use native.Mathlib.Omega.{arith}
+use borrow.Author.Tests.{lt-ltb}
 use lib.Dec.{T, leb, leb→le}
 use lib.ListN.{length, getD, take, replicate, length-take}
 use Rattle.codec.specs.Pick.{pick}
@@ -26,14 +27,14 @@ use Rattle.layout.specs.declared.Answer.the-variants.{Accepted, Refused}
 use Rattle.scope.specs.Reading.{fieldOf}
 use Rattle.scope.specs.Outputs.{withRoom, Leaves}
 use Rattle.scope.specs.Views.{isItem}
-use Rattle.scope.specs.Desk.{listed, afresh, editIn, editOf, Edited}
+use Rattle.scope.specs.Desk.{listed, isAccepted, rightOf, itemIs, afresh, editIn, editOf, Edited}
 use Rattle.layout.specs.Laws.Answer.{Refused≢Accepted, Accepted≢Refused}
 use Rattle.scope.specs.Laws.Reading.{Read, read-made, read-front, read-okay}
 use Rattle.scope.specs.Laws.Views.{field-is, front-length, item-in}
 use Rattle.layout.specs.declared.Surveyed.{Surveyed}
 use Rattle.scope.specs.Survey.{startsFrom, surveyed, surveyOf}
 use Rattle.reader.specs.Laws.Surveys.{begins, ends}
-use Rattle.desk.specs.Asking.{askedOf, isAccepted, rightOf}
+use Rattle.desk.specs.Asking.{askedOf}
 use Rattle.desk.specs.Laws.Asking.{asked-right}
 use Rattle.desk.specs.Splicing.{spliceOf}
 use Rattle.desk.specs.Laws.Splicing.{splice-afresh}
@@ -64,16 +65,15 @@ module _ (cat : ℕ) (s : List ℕ) (list item : ℕ) {v : Surveyed} (ev : v ≡
 
 -- the way out of `exchanged`: w is the item's number
 module _ (f : List ℕ) (len : ℕ) (starts : List ℕ) (item : ℕ) (t : List ℕ) {w : ℕ} (ew : w ≡ item) where
-  pub exchange-parts : Exchangeable f len starts item t → (2 ≤ getD starts (w - 1) 0) × (getD starts (w - 1) 0 ≤ getD starts w 0) × (getD starts w 0 ≤ length (take len f))
-      × (getD starts (w - 1) 0 + length t + (length (take len f) - getD starts w 0) ≤ 255)
-  exchange-parts x =
-      subst (λ i. (2 ≤ getD starts (i - 1) 0) × (getD starts (i - 1) 0 ≤ getD starts i 0) × (getD starts i 0 ≤ length (take len f))
-      × (getD starts (i - 1) 0 + length t + (length (take len f) - getD starts i 0) ≤ 255)) (sym ew) (x .parts)
+  module _ {from to : ℕ} (ef : from ≡ getD starts (w - 1) 0) (et : to ≡ getD starts w 0) where
+    pub exchange-parts : Exchangeable f len starts item t → (2 ≤ from) × (from ≤ to) × (to ≤ length (take len f)) × (from + length t + (length (take len f) - to) ≤ 255)
+    exchange-parts x = rw (ef, et, ew) (x .parts)
 
-  pub exchange-leaves : (n : ℕ) {out out′ : List ℕ} {a : Answer} → Leaves (withRoom (length out) (spliceOf n (take len f) (getD starts (w - 1) 0) (getD starts w 0) t)) out a out′
-      → Leaves (withRoom (length out) (exchangeOf n f len starts item t)) out a out′
-  unfolding exchangeOf
-  exchange-leaves n {out} {out′} {a} l = subst (λ i. Leaves (withRoom (length out) (spliceOf n (take len f) (getD starts (i - 1) 0) (getD starts i 0) t)) out a out′) ew l
+    pub exchange-leaves : (n : ℕ) {out out′ : List ℕ} {a : Answer} → Leaves (withRoom (length out) (spliceOf n (take len f) from to t)) out a out′ → Leaves (withRoom (length out) (exchangeOf n f len starts item t)) out a out′
+    unfolding exchangeOf
+    exchange-leaves n {out} {out′} {a} l =
+        subst (λ i. Leaves (withRoom (length out) (spliceOf n (take len f) (getD starts (i - 1) 0) (getD starts i 0) t)) out a out′) ew
+        (subst₂ (λ x y. Leaves (withRoom (length out) (spliceOf n (take len f) x y t)) out a out′) ef et l)
 
 module _ (cat : ℕ) (s : List ℕ) {v : Surveyed} (ev : v ≡ surveyOf cat s) where
   -- "A refusal of the field is the answer, with its number and place"
@@ -151,6 +151,11 @@ module _ (cat : ℕ) (s : List ℕ) {v : Surveyed} (ev : v ≡ surveyOf cat s) {
     alone-is : (t : List ℕ) → fieldOf cat (alone (item - 1) t) ≡ readFrame (body (paperOf cat)) (alone (item - 1) t)
     unfolding fieldOf
     alone-is t = rw (found .read .known-is) refl
+
+    -- the octets were asked of an item of the category
+    pub item-asked : (t : List ℕ) {i : ℕ} → i ≡ item - 1 → {b : Bool} → b ≡ itemIs cat i t → b ≡ rightOf cat (item - 1) t
+    unfolding itemIs
+    item-asked t ei eb = eb ∙ ap (λ j. itemIs cat j t) ei ∙ rw (found .read .known-is, lt-ltb (item - 1) (itemsOf cat) item-there) refl
 
     -- 14
     pub edit-wrong : (t : List ℕ) (room : ℕ) → rightOf cat (item - 1) t ≡ false → editOf cat s list item (put t) room ≡ refused 14 0

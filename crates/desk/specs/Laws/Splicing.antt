@@ -10,7 +10,7 @@ use Rattle.codec.specs.Radix.{join, ones}
 use Rattle.codec.specs.Item.{Item}
 use Rattle.codec.specs.Field.{flags, Contents, body, textsOf, flat, before}
 use Rattle.codec.specs.Frame.{writeFrame}
-use Rattle.codec.specs.Change.{setFlag, alone}
+use Rattle.codec.specs.Change.{setFlag}
 use Rattle.codec.specs.Laws.Field.{body-write, length-texts, indicator-lt, flags-join}
 use Rattle.codec.specs.Laws.View.{before-next, before-most, front-flat, back-flat}
 use Rattle.codec.specs.Laws.Change.{Splice, flat-set}
@@ -35,22 +35,6 @@ front-is : (o xs : List ℕ) → length xs ≤ length o → take (length xs) (se
 front-is o xs h =
     let z : 0 + length xs ≡ length xs = omega arith in
     ap (take (length xs)) (sets-eq xs o 0 (subst (_≤ length o) (sym z) h)) ∙ take-append-seam xs (drop (0 + length xs) o)
-
--- the field of one item alone
-module _ (i : ℕ) (t o : List ℕ) {len ind : ℕ} (el : len ≡ length t + 2) (ei : ind ≡ setFlag 0 i 1) (room : len ≤ length o) {o1 o2 : List ℕ} (e1 : o1 ≡ set (set o 0 len) 1 ind) (e2 : o2 ≡ sets o1 2 t) where
-  alone-put : o2 ≡ sets o 0 (alone i t)
-  unfolding alone
-  alone-put = let m : len ≡ suc (suc (length t)) = omega arith in e2 ∙ ap (λ l. sets l 2 t) (e1 ∙ ap₂ (λ a b. set (set o 0 a) 1 b) m ei)
-
-  long-alone : length (alone i t) ≡ len
-  unfolding alone
-  long-alone = omega arith
-
-  pub alone-whole : (len ≤ length o2) × (len ≡ length (take len o2)) × (take len o2 ≡ alone i t)
-  alone-whole =
-      let l : length o2 ≡ length o = ap length alone-put ∙ length-sets o 0 (alone i t) in
-      let w : take len o2 ≡ alone i t = ap₂ take (sym long-alone) alone-put ∙ front-is o (alone i t) (subst (_≤ length o) (sym long-alone) room) in
-      (subst (len ≤_) (sym l) room, sym (ap length w ∙ long-alone), w)
 
 -- the parts of a splice, put behind each other
 module _ (n : ℕ) (f : List ℕ) (from to : ℕ) (t : List ℕ) (o : List ℕ) (lo : 2 ≤ from) (mid : from ≤ to) (hi : to ≤ length f) {len : ℕ} (el : len ≡ from + length t + (length f - to)) (room : len ≤ length o)

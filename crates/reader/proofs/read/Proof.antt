@@ -1,30 +1,30 @@
--- `reader::read` meets its contract. Assumes nothing.
+-- `reader::read` meets its contract: one law at each way out. Assumes nothing.
 use native.Mathlib.Omega.{arith}
 use borrow.Author.Needs.{needs}
 use denote.Ref.{now}
-use Rattle.reader.specs.Laws.Whole.{ready-zeros, two-there, read-refused, read-accepted}
+use Rattle.reader.specs.Laws.Takings.{two-there, read-refused, read-accepted}
 use Rattle.reader.proofs.read.Statement.{statement}
 use Rattle.reader.proofs.read.Tie as tie
 
 returns : tie.Need-returns
 returns c =
-    let w = c .before .before in
-    let a = w .before .before .before .before .before .args in
-    read-refused (a .cat) (now (a .field)) (w .walk .ensures) (c .enum-told2 .given .1)
+    let w = c .before .before .before in
+    let a = w .before .before .before .before .args in
+    read-refused (a .cat) (now (a .field)) (w .read-into .ensures) (c .enum-told2 .given .1)
 
-shared-slice-read-t15 : tie.Need-shared-slice-read-t15
-shared-slice-read-t15 c =
+shared-slice-read-t14 : tie.Need-shared-slice-read-t14
+shared-slice-read-t14 c =
     let e = c .before in
-    let w = e .before .before in
-    let a = w .before .before .before .before .before .args in
-    omega (arith, two-there (a .cat) (now (a .field)) (w .walk .ensures) (e .enum-told .given .1))
+    let w = e .before .before .before in
+    let a = w .before .before .before .before .args in
+    omega (arith, two-there (a .cat) (now (a .field)) (w .read-into .ensures) (e .enum-told .given .1))
 
 returns-2 : tie.Need-returns-2
 returns-2 c =
     let e = c .before in
-    let w = e .before .before in
-    let a = w .before .before .before .before .before .args in
-    read-accepted (a .cat) (now (a .field)) (w .walk .ensures) (e .enum-told .given .1)
+    let w = e .before .before .before in
+    let a = w .before .before .before .before .args in
+    read-accepted (a .cat) (now (a .field)) (w .read-into .ensures) (e .enum-told .given .1)
 
 pub read-spec : {M : Type 1} → statement M
-read-spec = tie.close (tie.spec (λ c κs. ready-zeros) (λ c. search needs) (λ c. search needs) returns shared-slice-read-t15 returns-2)
+read-spec = tie.close (tie.spec (λ c. search needs) (λ c κs. search needs) (λ c. search needs) (λ c. search needs) returns shared-slice-read-t14 returns-2)

@@ -1,13 +1,12 @@
 -- The whole field: what the code of the reader answers is what 01 defines.
-use mathlib.Core.Path.{_≡_, refl, sym, ap, ap₂, _∙_, subst, subst₂}
+use mathlib.Core.Path.{_≡_, refl, sym, ap, ap₂, _∙_}
 use mathlib.Core.Bool.{Bool, true, false}
 use mathlib.Core.List.{List, [], _∷_}
 use Prim.Native.Nat.{ℕ, zero, suc, _+_, _-_, _≤_, _<_}
 use native.Mathlib.Omega.{arith}
 use borrow.Author.Tests.{ltb-true, ltb-false, lt-ltb, le-ltb, eq-eqb, ne-eqb, eqb-true, eqb-false}
 use lib.Bits.{bitAnd}
-use lib.Dec.{T, ltb, eqb}
-use lib.IntN.{ℤ}
+use lib.Dec.{ltb, eqb}
 use lib.ListN.{length, getD, take, drop}
 use lib.Seq.{length-take-le}
 use Rattle.codec.specs.Pick.{pick}
@@ -19,19 +18,14 @@ use Rattle.codec.specs.Meaning.{lenOf}
 use Rattle.codec.specs.Laws.Codec.{number-one}
 use Rattle.codec.specs.Laws.Frame.{mapOutcome, frame-empty, frame-small, frame-short, frame-whole}
 use Rattle.papers.specs.Papers.{known, paperOf, itemsOf, spareOf}
-use Rattle.papers.specs.Laws.Papers.{few-items, spare-places}
-use Rattle.layout.specs.declared.Answer.{Answer}
-use Rattle.layout.specs.declared.Answer.the-variants.{Accepted, Refused}
-use Rattle.spots.specs.Spots.{spotAt, spotOf, itemOn, rowOk, itemsFrom}
-use Rattle.spots.specs.Laws.Spots.{Spots, spots-right}
+use Rattle.papers.specs.Laws.Papers.{spare-places}
+use Rattle.spots.specs.Spots.{spotOf, itemOn, itemsFrom}
+use Rattle.spots.specs.Laws.Spots.{spots-right}
 use Rattle.reader.specs.Steps.{run}
-use Rattle.reader.specs.declared.lines.Step.{Step}
-use Rattle.reader.specs.declared.lines.Step.the-variants.{Next}
-use Rattle.reader.specs.declared.lines.Step.the-variants as steps
 use Rattle.scope.specs.Reading.{fieldOf}
 use Rattle.reader.specs.Laws.Walk.{run-map, run-then, thenAt}
-use Rattle.reader.specs.Rows.{placeRun, Found, found, goOn, rowFrom, rowStep, RowStands}
-use Rattle.reader.specs.Fields.{ends, itemsIn, walkOf, asAnswer, WalkStands}
+use Rattle.reader.specs.Rows.{placeRun, Found, found, goOn, rowFrom}
+use Rattle.reader.specs.Fields.{ends, itemsIn, walkOf}
 
 -- ---- the row of spots is the row of the codec
 
@@ -148,12 +142,6 @@ field-walk cat (len ∷ t) = go (known cat) refl
     go true e = inner e
     go false e = refl
 
-pub walk-refused : (l : List ℤ) (ps ss : List ℕ) (len : ℕ) {o : Outcome Found} {e p : ℕ} → o ≡ refused e p → WalkStands l ps ss len o (Refused e p) l ps ss
-walk-refused l ps ss len h = record { answer = rw h refl; numbers = rw h refl; parts = rw h refl; starts = rw h refl }
-
-pub walk-same : {l : List ℤ} {ps ss : List ℕ} {len len′ : ℕ} {o o′ : Outcome Found} {a : Answer} {m : List ℤ} {qs ts : List ℕ} → len ≡ len′ → o ≡ o′ → WalkStands l ps ss len o a m qs ts → WalkStands l ps ss len′ o′ a m qs ts
-walk-same {l} {ps} {ss} {a = a} {m = m} {qs = qs} {ts = ts} el eo w = subst₂ (λ j x. WalkStands l ps ss j x a m qs ts) el eo w
-
 -- what the mask says of the places behind the last item
 module _ (cat ind : ℕ) (lt : ind < 256) {m : ℕ} (em : m ≡ spareOf cat) where
   spare-said : {t : Bool} → eqb (bitAnd ind m) 0 ≡ t → allZero (drop (itemsOf cat) (flags ind)) ≡ t
@@ -165,112 +153,39 @@ module _ (cat ind : ℕ) (lt : ind < 256) {m : ℕ} (em : m ≡ spareOf cat) whe
   pub spare-set : (bitAnd ind m ≡ 0 → ⊥) → allZero (drop (itemsOf cat) (flags ind)) ≡ false
   spare-set z = spare-said (ne-eqb (bitAnd ind m) 0 z)
 
--- the ways out of `items`
-module _ (cat ind : ℕ) (xs : List ℕ) (l : List ℤ) (ps ss : List ℕ) where
-  pub items-spare : allZero (drop (itemsOf cat) (flags ind)) ≡ false → WalkStands l ps ss (length xs) (itemsIn cat ind xs) (Refused 4 1) l ps ss
-  unfolding itemsIn
-  items-spare e = walk-refused l ps ss (length xs) (rw e refl)
+pub items-in : (cat ind : ℕ) (xs : List ℕ) {t : Bool} → allZero (drop (itemsOf cat) (flags ind)) ≡ t → itemsIn cat ind xs ≡ pick t (ends (length xs) (rowFrom (spotOf cat) (itemsOf cat) (flags ind) xs 2)) (refused 4 1)
+unfolding itemsIn
+items-in cat ind xs e = rw e refl
 
-  module _ (e : allZero (drop (itemsOf cat) (flags ind)) ≡ true) {a : Step} {m : List ℤ} {qs ts : List ℕ} (w : RowStands l ps ss (rowFrom (spotOf cat) (itemsOf cat) (flags ind) xs 2) a m qs ts) where
-    found-row : {c n : ℕ} → a ≡ Next c n → (X : Type 0) → ((f : Found) → rowFrom (spotOf cat) (itemsOf cat) (flags ind) xs 2 ≡ got f n → X) → X
-    found-row {c} {n} ea X k = go (rowFrom (spotOf cat) (itemsOf cat) (flags ind) xs 2) refl (sym (w .step) ∙ ea)
-      where
-        go : (x : Res Found) → rowFrom (spotOf cat) (itemsOf cat) (flags ind) xs 2 ≡ x → rowStep x ≡ Next c n → X
-        go (got f j) ex es = let z : j ≡ n = cc in k f (ex ∙ ap (got f) z)
-        go (bad q r) ex es = let z : _≡_ {A = ℕ} 0 1 = cc in absurd (omega arith)
+-- ---- LEN, by the tests that the code makes
 
-    stop-found : {q r : ℕ} → rowStep (rowFrom (spotOf cat) (itemsOf cat) (flags ind) xs 2) ≡ steps.Refused q r → itemsIn cat ind xs ≡ refused q r
-    unfolding itemsIn ends
-    stop-found {q} {r} es = go (rowFrom (spotOf cat) (itemsOf cat) (flags ind) xs 2) refl es
-      where
-        go : (x : Res Found) → rowFrom (spotOf cat) (itemsOf cat) (flags ind) xs 2 ≡ x → rowStep x ≡ steps.Refused q r → itemsIn cat ind xs ≡ refused q r
-        go (got f j) ex es = let z : _≡_ {A = ℕ} 0 1 = cc in absurd (omega arith)
-        go (bad i j) ex es =
-            let a1 : i ≡ q = cc in
-            let a2 : j ≡ r = cc in
-            rw (e, ex) (ap₂ refused a1 a2)
-
-    pub items-stop : {q r : ℕ} → a ≡ steps.Refused q r → {x : Answer} → x ≡ asAnswer a → WalkStands l ps ss (length xs) (itemsIn cat ind xs) x m qs ts
-    items-stop {q} {r} ea ex =
-        let o : itemsIn cat ind xs ≡ refused q r = stop-found (sym (w .step) ∙ ea) in
-        record { answer = ex ∙ ap asAnswer ea ∙ rw o refl; numbers = rw o refl; parts = rw o refl; starts = rw o refl }
-
-    pub items-left : {c n : ℕ} → a ≡ Next c n → (n ≡ length xs → ⊥) → WalkStands l ps ss (length xs) (itemsIn cat ind xs) (Refused 9 n) m qs ts
-    unfolding itemsIn ends
-    items-left {c} {n} ea z =
-        found-row ea (WalkStands l ps ss (length xs) (itemsIn cat ind xs) (Refused 9 n) m qs ts) λ f ef.
-        let o : itemsIn cat ind xs ≡ refused 9 n = rw (e, ef, ne-eqb n (length xs) z) refl in
-        record { answer = rw o refl; numbers = rw o refl; parts = rw o refl; starts = rw o refl }
-
-    all-found : {n : ℕ} (f : Found) → rowFrom (spotOf cat) (itemsOf cat) (flags ind) xs 2 ≡ got f n → n ≡ length xs → itemsIn cat ind xs ≡ accepted f
-    unfolding itemsIn ends
-    all-found {n} f ef z = rw (e, ef, eq-eqb n (length xs) z) refl
-
-    pub items-all : {c n : ℕ} → a ≡ Next c n → n ≡ length xs → WalkStands l ps ss (length xs) (itemsIn cat ind xs) (Accepted n) m qs ts
-    items-all {c} {n} ea z =
-        found-row ea (WalkStands l ps ss (length xs) (itemsIn cat ind xs) (Accepted n) m qs ts) λ f ef.
-        let o : itemsIn cat ind xs ≡ accepted f = all-found f ef z in
-        record { answer = rw o (ap Accepted z); numbers = w .numbers ∙ rw (ef, o) refl; parts = w .parts ∙ rw (ef, o) refl; starts = w .starts ∙ rw (ef, o) refl }
-
--- `row` may be called, and what it gives is of the category's row
-pub row-asks : (cat : ℕ) → known cat ≡ true → {k n : ℕ} → k ≡ spotOf cat → n ≡ itemsOf cat → {X : Type 0} → X → (n ≤ 8) × (k < 100) × T (rowOk k n) × (spotAt k .1 ≡ 0) × X
-row-asks cat h ek en x =
-    let s : Spots cat = spots-right cat h in
-    rw (ek, en) (few-items cat, s .few, s .row-is, s .begins, x)
-
-pub row-of : (cat : ℕ) (ds xs : List ℕ) {k n : ℕ} → k ≡ spotOf cat → n ≡ itemsOf cat → {l : List ℤ} {ps ss : List ℕ} {a : Step} {m : List ℤ} {qs ts : List ℕ}
-    → RowStands l ps ss (rowFrom k n ds xs 2) a m qs ts → RowStands l ps ss (rowFrom (spotOf cat) (itemsOf cat) ds xs 2) a m qs ts
-row-of cat ds xs ek en {l} {ps} {ss} {a} {m} {qs} {ts} w = subst₂ (λ j i. RowStands l ps ss (rowFrom j i ds xs 2) a m qs ts) ek en w
-
--- ---- the ways out of `walk`
-
-other-is : (cat : ℕ) (s : List ℕ) → known cat ≡ false → walkOf cat s ≡ refused 1 0
+pub other-is : (cat : ℕ) (s : List ℕ) → known cat ≡ false → walkOf cat s ≡ refused 1 0
 unfolding walkOf
 other-is cat [] h = rw h refl
 other-is cat (len ∷ t) h = rw h refl
 
-len-is : (s : List ℕ) → lenOf s ≡ getD s 0 0
+pub len-is : (s : List ℕ) → lenOf s ≡ getD s 0 0
 unfolding lenOf
 len-is [] = refl
 len-is (x ∷ t) = refl
 
 module _ (cat : ℕ) (h : known cat ≡ true) where
-  empty-is : (s : List ℕ) → length s ≡ 0 → walkOf cat s ≡ refused 2 0
+  pub empty-is : (s : List ℕ) → length s ≡ 0 → walkOf cat s ≡ refused 2 0
   unfolding walkOf
   empty-is [] e = rw h refl
   empty-is (len ∷ t) e = absurd (omega arith)
 
-  small-is : (s : List ℕ) → (length s ≡ 0 → ⊥) → getD s 0 0 < 2 → walkOf cat s ≡ refused 3 0
+  pub small-is : (s : List ℕ) → (length s ≡ 0 → ⊥) → getD s 0 0 < 2 → walkOf cat s ≡ refused 3 0
   unfolding walkOf
   small-is [] z k = absurd (z refl)
   small-is (len ∷ t) z k = rw (h, lt-ltb len 2 k) refl
 
-  short-is : (s : List ℕ) → (length s ≡ 0 → ⊥) → 2 ≤ getD s 0 0 → length s < getD s 0 0 → walkOf cat s ≡ refused 2 0
+  pub short-is : (s : List ℕ) → (length s ≡ 0 → ⊥) → 2 ≤ getD s 0 0 → length s < getD s 0 0 → walkOf cat s ≡ refused 2 0
   unfolding walkOf
   short-is [] z k g = absurd (z refl)
   short-is (len ∷ t) z k g = rw (h, le-ltb len 2 k, lt-ltb (suc (length t)) len g) refl
 
-  long-is : (s : List ℕ) → (length s ≡ 0 → ⊥) → 2 ≤ getD s 0 0 → getD s 0 0 ≤ length s → walkOf cat s ≡ itemsIn cat (getD s 1 0) (take (getD s 0 0) s)
+  pub long-is : (s : List ℕ) → (length s ≡ 0 → ⊥) → 2 ≤ getD s 0 0 → getD s 0 0 ≤ length s → walkOf cat s ≡ itemsIn cat (getD s 1 0) (take (getD s 0 0) s)
   unfolding walkOf
   long-is [] z k g = absurd (z refl)
   long-is (len ∷ t) z k g = rw (h, le-ltb len 2 k, le-ltb (suc (length t)) len g) refl
-
-module _ (cat : ℕ) (s : List ℕ) (l : List ℤ) (ps ss : List ℕ) where
-  pub walk-other : known cat ≡ false → WalkStands l ps ss (lenOf s) (walkOf cat s) (Refused 1 0) l ps ss
-  walk-other h = walk-refused l ps ss (lenOf s) (other-is cat s h)
-
-  module _ (h : known cat ≡ true) where
-    pub walk-empty : length s ≡ 0 → WalkStands l ps ss (lenOf s) (walkOf cat s) (Refused 2 0) l ps ss
-    walk-empty z = walk-refused l ps ss (lenOf s) (empty-is cat h s z)
-
-    module _ (some : length s ≡ 0 → ⊥) {n : ℕ} (en : n ≡ getD s 0 0) where
-      pub walk-small : n < 2 → WalkStands l ps ss (lenOf s) (walkOf cat s) (Refused 3 0) l ps ss
-      walk-small k = walk-refused l ps ss (lenOf s) (small-is cat h s some (subst (_< 2) en k))
-
-      pub walk-short : 2 ≤ n → length s < n → WalkStands l ps ss (lenOf s) (walkOf cat s) (Refused 2 0) l ps ss
-      walk-short k g = walk-refused l ps ss (lenOf s) (short-is cat h s some (subst (2 ≤_) en k) (subst (length s <_) en g))
-
-      pub walk-items : 2 ≤ n → n ≤ length s → {a : Answer} {m : List ℤ} {qs ts : List ℕ} → WalkStands l ps ss (length (take n s)) (itemsIn cat (getD s 1 0) (take n s)) a m qs ts → WalkStands l ps ss (lenOf s) (walkOf cat s) a m qs ts
-      walk-items k g w =
-          walk-same (length-take-le n s g ∙ en ∙ sym (len-is s))
-          (ap (λ j. itemsIn cat (getD s 1 0) (take j s)) en ∙ sym (long-is cat h s some (subst (2 ≤_) en k) (subst (_≤ length s) en g))) w

@@ -1,4 +1,4 @@
--- The ways out of `line`: the row of a line gives what its codec reads.
+-- The format of a line gives what its codec reads.
 use mathlib.Core.Path.{_≡_, refl, sym, ap, ap₂, _∙_, subst}
 use mathlib.Core.Bool.{Bool, true, false}
 use mathlib.Core.List.{List}
@@ -8,13 +8,10 @@ use native.Mathlib.Omega.{arith}
 use borrow.Author.Tests.{eq-eqb, ne-eqb}
 use lib.Bits.{bitAnd}
 use lib.Dec.{T, eqb, eqb→eq}
-use lib.IntN.{ℤ}
 use lib.ListN.{length, take, drop, length-drop}
-use lib.Seq.{sets}
 use lib.Pow.{shr-lt}
-use Rattle.codec.specs.Pick.{pick}
 use Rattle.codec.specs.Radix.{total, cut, join, eights}
-use Rattle.codec.specs.Codec.{got, bad}
+use Rattle.codec.specs.Codec.{got, bad, shift}
 use Rattle.codec.specs.Line.{Line, widths, count, clear, nums, inLimits, line, fills}
 use Rattle.codec.specs.Laws.Radix.{total-eights}
 use Rattle.codec.specs.Mask.{spareMask}
@@ -23,11 +20,10 @@ use Rattle.codec.specs.Laws.Line.{wholeOf, digitsOf, line-short, line-spare, li
 use Rattle.lengths.specs.declared.Format.{Format}
 use Rattle.lengths.specs.Lines.{placedAt, lineAt, firstAt, countAt, piecesFrom, formatOf}
 use Rattle.lengths.specs.Laws.Lines.{line-filled}
-use Rattle.lengths.specs.Laws.Formats.{format-octets, format-pieces, format-fx, format-first}
-use Rattle.reader.specs.Steps.{stepOf, afterOf, lineRun}
+use Rattle.lengths.specs.Laws.Formats.{format-octets, format-pieces, format-first}
+use Rattle.reader.specs.Steps.{lineRun}
 use Rattle.reader.specs.Numbers.{numsAt}
 use Rattle.reader.specs.Laws.Numbers.{nums-at, length-nums-at}
-use Rattle.reader.specs.declared.lines.Step.the-variants.{Next, Refused}
 use Rattle.papers.specs.Papers.{SLOTS}
 
 -- the octets of a line as a number n below 2 ^ (8 k): the digits above FX
@@ -52,56 +48,51 @@ row-room b {r} er n base h =
     let f : r .first ≡ firstAt b = format-first b er in
     omega arith
 
--- ---- the ways out of `line`, by its row and the tests that the code makes
+-- ---- the ways out of `seen`, by its format and the tests that the code makes
 
-module _ (xs : List ℕ) (at b : ℕ) (l m : List ℤ) (base : ℕ) {r : Format} (er : r ≡ formatOf (placedAt b)) {d : ℕ} (ed : d ≡ length xs - at) where
-  refused : {e : ℕ} → (line (lineAt b)) .read (drop at xs) ≡ bad e 0 → (Refused e at ≡ stepOf (lineRun b xs at)) × (m ≡ afterOf l (base + firstAt b) m (lineRun b xs at))
+module _ (xs : List ℕ) (at b : ℕ) {r : Format} (er : r ≡ formatOf (placedAt b)) where
+  falls : {e : ℕ} → (line (lineAt b)) .read (drop at xs) ≡ bad e 0 → lineRun b xs at ≡ bad e at
   unfolding lineRun
-  refused {e} h = let z : at + 0 ≡ at = omega arith in (rw (h, z) refl, rw h refl)
+  falls h = let z : at + 0 ≡ at = omega arith in rw (h, z) refl
 
-  pub line-5 : d < r .octets → (Refused 5 at ≡ stepOf (lineRun b xs at)) × (m ≡ afterOf l (base + firstAt b) m (lineRun b xs at))
-  line-5 h = refused (line-short (lineAt b) (drop at xs) (subst (length (drop at xs) <_) (format-octets b er) (subst (_< r .octets) (ed ∙ sym (length-drop at xs)) h)))
+  behind-at : length (drop at xs) ≡ length xs - at
+  behind-at = length-drop at xs
 
-  module _ (h : r .octets ≤ d) {n : ℕ} (en : n ≡ join (eights (r .octets)) (take (r .octets) (drop at xs))) (lt : n < 2 ^ (8 * r .octets)) where
-    there : lineAt b .octets ≤ length (drop at xs)
-    there = subst (_≤ length (drop at xs)) (format-octets b er) (subst (r .octets ≤_) (ed ∙ sym (length-drop at xs)) h)
+  pub line-missing : length xs - at < r .octets → lineRun b xs at ≡ bad 5 at
+  line-missing h = let d = behind-at in falls (line-short (lineAt b) (drop at xs) (omega (arith, h, d, format-octets b er)))
 
-    whole : n ≡ wholeOf (lineAt b) (drop at xs)
-    whole = en ∙ ap (λ j. join (eights j) (take j (drop at xs))) (format-octets b er)
+  module _ (h : r .octets ≤ length xs - at) {n : ℕ} (en : n ≡ join (eights (r .octets)) (take (r .octets) (drop at xs))) (lt : n < 2 ^ (8 * r .octets)) where
+    all-there : lineAt b .octets ≤ length (drop at xs)
+    all-there = let d = behind-at in omega (arith, h, d, format-octets b er)
 
-    under : n < 2 ^ (8 * lineAt b .octets)
-    under = subst (λ j. n < 2 ^ (8 * j)) (format-octets b er) lt
+    as-whole : n ≡ wholeOf (lineAt b) (drop at xs)
+    as-whole = en ∙ ap (λ j. join (eights j) (take j (drop at xs))) (format-octets b er)
 
-    above : n / 2 ^ lineAt b .fx ≡ wholeOf (lineAt b) (drop at xs) / 2 ^ lineAt b .fx
-    above = ap (_/ 2 ^ lineAt b .fx) whole
+    below : n < 2 ^ (8 * lineAt b .octets)
+    below = subst (λ j. n < 2 ^ (8 * j)) (format-octets b er) lt
 
-    clear-of : {t : Bool} → eqb (bitAnd n (r .spare)) 0 ≡ t → clear (lineAt b .pieces) (digitsOf (lineAt b) (drop at xs)) ≡ t
-    clear-of e =
-        ap (λ x. clear (lineAt b .pieces) (cut (widths (lineAt b .pieces)) x)) (sym above) ∙ sym (clear-is (lineAt b) (line-filled b) n under)
+    is-clear : {t : Bool} → eqb (bitAnd n (r .spare)) 0 ≡ t → clear (lineAt b .pieces) (digitsOf (lineAt b) (drop at xs)) ≡ t
+    is-clear e =
+        ap (λ m. clear (lineAt b .pieces) (cut (widths (lineAt b .pieces)) (m / 2 ^ lineAt b .fx))) (sym as-whole) ∙ sym (clear-is (lineAt b) (line-filled b) n below)
         ∙ ap (λ (x : Format). eqb (bitAnd n (x .spare)) 0) (sym er) ∙ e
 
-    pub line-6 : (bitAnd n (r .spare) ≡ 0 → ⊥) → (Refused 6 at ≡ stepOf (lineRun b xs at)) × (m ≡ afterOf l (base + firstAt b) m (lineRun b xs at))
-    line-6 z = refused (line-spare (lineAt b) (drop at xs) there (clear-of (ne-eqb (bitAnd n (r .spare)) 0 z)))
+    pub line-spared : (bitAnd n (r .spare) ≡ 0 → ⊥) → lineRun b xs at ≡ bad 6 at
+    line-spared z = falls (line-spare (lineAt b) (drop at xs) all-there (is-clear (ne-eqb (bitAnd n (r .spare)) 0 z)))
 
-    module _ (z : bitAnd n (r .spare) ≡ 0) where
-      nums-of : numsAt (piecesFrom (r .runs) (r .pieces)) n (8 * r .octets) ≡ nums (lineAt b .pieces) (digitsOf (lineAt b) (drop at xs))
-      nums-of =
-          ap₂ (λ ps j. numsAt ps n (8 * j)) (format-pieces b er) (format-octets b er) ∙ nums-are (lineAt b) (line-filled b) n under
-          ∙ ap (λ x. nums (lineAt b .pieces) (cut (widths (lineAt b .pieces)) x)) above
+    pub numbers-are : numsAt (piecesFrom (r .runs) (r .pieces)) n (8 * r .octets) ≡ nums (lineAt b .pieces) (digitsOf (lineAt b) (drop at xs))
+    numbers-are =
+        ap₂ (λ ps j. numsAt ps n (8 * j)) (format-pieces b er) (format-octets b er) ∙ nums-are (lineAt b) (line-filled b) n below
+        ∙ ap (λ m. nums (lineAt b .pieces) (cut (widths (lineAt b .pieces)) (m / 2 ^ lineAt b .fx))) as-whole
 
-      module _ {ok : Bool} (eo : ok ≡ inLimits (piecesFrom (r .runs) (r .pieces)) (numsAt (piecesFrom (r .runs) (r .pieces)) n (8 * r .octets))) where
-        limits-of : {t : Bool} → ok ≡ t → inLimits (lineAt b .pieces) (nums (lineAt b .pieces) (digitsOf (lineAt b) (drop at xs))) ≡ t
-        limits-of e = ap₂ inLimits (sym (format-pieces b er)) (sym nums-of) ∙ sym eo ∙ e
+    module _ (z : bitAnd n (r .spare) ≡ 0) {ok : Bool} (eo : ok ≡ inLimits (piecesFrom (r .runs) (r .pieces)) (numsAt (piecesFrom (r .runs) (r .pieces)) n (8 * r .octets))) where
+      are-in : {t : Bool} → ok ≡ t → inLimits (lineAt b .pieces) (nums (lineAt b .pieces) (digitsOf (lineAt b) (drop at xs))) ≡ t
+      are-in e = ap₂ inLimits (sym (format-pieces b er)) (sym numbers-are) ∙ sym eo ∙ e
 
-        pub line-8 : ok ≡ false → (Refused 8 at ≡ stepOf (lineRun b xs at)) × (m ≡ afterOf l (base + firstAt b) m (lineRun b xs at))
-        line-8 e = refused (line-limit (lineAt b) (drop at xs) there (clear-of (eq-eqb _ 0 z)) (limits-of e))
+      pub line-outside : ok ≡ false → lineRun b xs at ≡ bad 8 at
+      line-outside e = falls (line-limit (lineAt b) (drop at xs) all-there (is-clear (eq-eqb _ 0 z)) (are-in e))
 
-        pub line-got : ok ≡ true → m ≡ pick ok (sets l (base + r .first) (numsAt (piecesFrom (r .runs) (r .pieces)) n (8 * r .octets))) m → {f : ℕ} → f ≡ n % 2 ^ r .below
-            → (Next f (at + r .octets) ≡ stepOf (lineRun b xs at)) × (m ≡ afterOf l (base + firstAt b) m (lineRun b xs at))
-        unfolding lineRun
-        line-got e em {f} ef =
-            let g : (line (lineAt b)) .read (drop at xs) ≡ got (f, numsAt (piecesFrom (r .runs) (r .pieces)) n (8 * r .octets)) (r .octets)
-            = line-there (lineAt b) (drop at xs) there (clear-of (eq-eqb _ 0 z)) (limits-of e)
-            ∙ (λ i. got ((ap₂ (λ x y. x % 2 ^ y) (sym whole) (sym (format-fx b er)) ∙ sym ef) i, sym nums-of i) (sym (format-octets b er) i)) in
-            let q : r .first ≡ firstAt b = format-first b er in
-            (rw g refl, em ∙ rw (e, g, q) refl)
+      pub line-found : ok ≡ true → lineRun b xs at ≡ got (wholeOf (lineAt b) (drop at xs) % 2 ^ lineAt b .fx, nums (lineAt b .pieces) (digitsOf (lineAt b) (drop at xs))) (at + r .octets)
+      unfolding lineRun
+      line-found e =
+          ap (shift at) (line-there (lineAt b) (drop at xs) all-there (is-clear (eq-eqb _ 0 z)) (are-in e))
+          ∙ ap (λ j. got (wholeOf (lineAt b) (drop at xs) % 2 ^ lineAt b .fx, nums (lineAt b .pieces) (digitsOf (lineAt b) (drop at xs))) (at + j)) (sym (format-octets b er))

@@ -6,32 +6,29 @@ use Prim.Native.Nat.{ℕ, zero, suc, _+_, _-_, _≤_, _<_}
 use native.Mathlib.Nat.{not-suc-le-zero, le-of-suc-le-suc}
 use native.Mathlib.Omega.{arith}
 use lib.Dec.{T, eqb}
-use lib.IntN.{ℤ}
 use lib.ListN.{length, getD, take, drop, replicate}
-use lib.Seq.{sets-eq, length-take-le}
+use lib.Seq.{length-take-le}
 use Rattle.codec.specs.Codec.{Octets, Res, got, bad, shift, Was, opt}
 use Rattle.codec.specs.Line.{Held}
 use Rattle.codec.specs.Item.{Item, slots, nothing, item, goodItem}
 use Rattle.codec.specs.Field.{uncons, firstFlag, nextFlags, place, flags, Contents, goodItems, texts, textsOf, before}
-use Rattle.codec.specs.Frame.{accepted}
+use Rattle.codec.specs.Frame.{Outcome, accepted, refused}
 use Rattle.codec.specs.Meaning.{lenOf}
 use Rattle.codec.specs.Laws.Tests.{and-l, and-r}
 use Rattle.codec.specs.Laws.Codec.{octets-drop, octets-take, lawful-opt}
 use Rattle.codec.specs.Laws.Item.{only-nothing, lawful-item}
 use Rattle.codec.specs.Laws.Field.{length-texts}
 use Rattle.codec.specs.Laws.View.{before-next}
-use Rattle.codec.specs.Laws.Sets.{drop-replicate}
 use Rattle.papers.specs.Papers.{paperOf, itemsOf}
-use Rattle.papers.specs.Laws.Papers.{good-paper, few-items}
-use Rattle.layout.specs.declared.Answer.{Answer}
-use Rattle.layout.specs.declared.Answer.the-variants.{Accepted, Refused}
+use Rattle.papers.specs.Laws.Papers.{good-paper}
+use Rattle.layout.specs.declared.Answer.the-variants.{Accepted}
 use Rattle.scope.specs.Survey.{startsFrom, surveyed, surveyOf}
 use Rattle.spots.specs.Spots.{spotOf, itemOn, itemsFrom}
 use Rattle.spots.specs.Laws.Spots.{spots-right}
-use Rattle.layout.specs.declared.Surveyed.{Surveyed}
 use Rattle.reader.specs.Rows.{placeRun, Found, found, goOn, rowFrom}
-use Rattle.reader.specs.Fields.{walkOf, answerTo, outAfter, WalkStands}
-use Rattle.reader.specs.Laws.Whole.{found-sized, Walked, walked, walk-found, walk-fell, field-found, field-fell}
+use Rattle.reader.specs.Fields.{walkOf}
+use Rattle.reader.specs.Places.{surveyedBy}
+use Rattle.reader.specs.Laws.Whole.{Walked, walked, field-found, field-fell}
 
 -- ---- where the texts begin
 
@@ -92,34 +89,21 @@ row-starts k (suc n) g ds xs o at =
     by ih (bad e p) l = tt
     by ih (got v m) l = next v m (l v m refl) (rowFrom (k + 1) n (nextFlags ds) xs m) (ih m)
 
--- ---- the ways out of `survey`
+-- of a field that is accepted
+pub places-are : (cat : ℕ) (s : List ℕ) → Octets s → (f : Found) → Walked cat s f → 2 ∷ f .1 ≡ startsFrom 2 (textsOf (paperOf cat) (getD s 1 0, f .0))
+unfolding textsOf
+places-are cat s o f k =
+    let ei : itemsFrom (spotOf cat) (itemsOf cat) ≡ paperOf cat = (spots-right cat (k .known-is)) .items-are in
+    subst (RowStarts 2 (flags (getD s 1 0)) (itemsFrom (spotOf cat) (itemsOf cat))) (k .row-is)
+    (row-starts (spotOf cat) (itemsOf cat) (subst (λ x. T (goodItems x)) (sym ei) (good-paper cat)) (flags (getD s 1 0)) (take (lenOf s) s) (octets-take (lenOf s) s o) 2)
+    ∙ ap (λ its. startsFrom 2 (texts (flags (getD s 1 0)) its (f .0))) ei
 
-module _ (cat : ℕ) (s : List ℕ) {a : Answer} {l m : List ℤ} {ps qs ts : List ℕ} (w : WalkStands l ps (2 ∷ replicate 8 0) (lenOf s) (walkOf cat s) a m qs ts) where
-  pub survey-refused : {q r : ℕ} → a ≡ Refused q r → _≡_ {A = Surveyed} (record { answer = a; items = 0; starts = replicate 9 0 }) (surveyOf cat s)
-  unfolding surveyOf surveyed
-  survey-refused ea = rw (field-fell cat s (walk-fell w ea), ea) refl
+-- ---- the survey by what the walk finds
 
-  starts-are : Octets s → (f : Found) → walkOf cat s ≡ accepted f → ts ≡ startsFrom 2 (textsOf (paperOf cat) (getD s 1 0, f .0)) ++ replicate (8 - itemsOf cat) 0
-  unfolding textsOf
-  starts-are o f ef =
-      let k : Walked cat s f = walked cat s f ef in
-      let n : ℕ = itemsOf cat in
-      let ei : itemsFrom (spotOf cat) n ≡ paperOf cat = (spots-right cat (k .known-is)) .items-are in
-      let ep : length (f .1) ≡ n = (found-sized cat s f k) .places in
-      let few : n ≤ 8 = few-items cat in
-      let g : 1 + length (f .1) ≤ length {A = ℕ} (2 ∷ replicate 8 0) = omega arith in
-      let q : 1 + length (f .1) ≡ suc (length (f .1)) = omega arith in
-      let es : 2 ∷ f .1 ≡ startsFrom 2 (texts (flags (getD s 1 0)) (itemsFrom (spotOf cat) n) (f .0))
-      = subst (RowStarts 2 (flags (getD s 1 0)) (itemsFrom (spotOf cat) n)) (k .row-is) (row-starts (spotOf cat) n (subst (λ x. T (goodItems x)) (sym ei) (good-paper cat)) (flags (getD s 1 0)) (take (lenOf s) s) (octets-take (lenOf s) s o) 2) in
-      w .starts ∙ ap (outAfter (2 ∷ replicate 8 0) 1 (λ f. f .1) ts) ef
-      ∙ sets-eq (f .1) (2 ∷ replicate 8 0) 1 g
-      ∙ ap (λ x. (2 ∷ f .1) ++ x) (ap (λ j. drop j (2 ∷ replicate 8 0)) q ∙ drop-replicate 0 (length (f .1)) 8 ∙ ap (λ j. replicate (8 - j) 0) ep)
-      ∙ ap (_++ replicate (8 - n) 0) (es ∙ ap (λ its. startsFrom 2 (texts (flags (getD s 1 0)) its (f .0))) ei)
-
-  pub survey-accepted : Octets s → {n : ℕ} → a ≡ Accepted n → _≡_ {A = Surveyed} (record { answer = a; items = getD s 1 0; starts = ts }) (surveyOf cat s)
-  unfolding surveyOf surveyed
-  survey-accepted o ea =
-      walk-found w ea (_≡_ {A = Surveyed} (record { answer = a; items = getD s 1 0; starts = ts }) (surveyOf cat s)) λ f ef.
-      let el : a ≡ Accepted (lenOf s) = w .answer ∙ ap (answerTo (lenOf s)) ef in
-      (λ i. record { answer = el i; items = getD s 1 0; starts = starts-are o f ef i })
-      ∙ sym (ap (surveyed cat s) (field-found cat s f ef))
+pub survey-by : (cat : ℕ) (s : List ℕ) → Octets s → {o : Outcome Found} → walkOf cat s ≡ o → surveyedBy (itemsOf cat) (lenOf s) (getD s 1 0) o ≡ surveyOf cat s
+unfolding surveyOf surveyed
+survey-by cat s oct {o} e = go o e
+  where
+    go : (o : Outcome Found) → walkOf cat s ≡ o → surveyedBy (itemsOf cat) (lenOf s) (getD s 1 0) o ≡ surveyOf cat s
+    go (refused q r) e = rw (field-fell cat s e) refl
+    go (accepted f) e = (λ i. record { answer = Accepted (lenOf s); items = getD s 1 0; starts = places-are cat s oct f (walked cat s f e) i ++ replicate (8 - itemsOf cat) 0 }) ∙ sym (ap (surveyed cat s) (field-found cat s f e))

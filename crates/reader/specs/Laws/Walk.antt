@@ -1,5 +1,5 @@
 -- Readings by place, one after the other, and the slots they fill.
-use mathlib.Core.Path.{_≡_, refl, sym, ap, ap₂, _∙_, subst}
+use mathlib.Core.Path.{_≡_, refl, sym, ap, _∙_, subst}
 use mathlib.Core.List.{List, [], _∷_, _++_}
 use Prim.Native.Nat.{ℕ, zero, suc, _+_, _≤_, _<_}
 use native.Mathlib.Omega.{arith}
@@ -10,14 +10,8 @@ use lib.Seq.{sets, drop-drop, set-getD, getD-set-other, getD-set-same, length-se
 use Rattle.codec.specs.Codec.{Res, got, bad, shift, mapRes, andThen, Codec, pairUp}
 use Rattle.codec.specs.Line.{Held}
 use Rattle.codec.specs.Item.{beside}
-use Rattle.codec.specs.Laws.Sets.{sets-append}
-use Rattle.reader.specs.Steps.{stepOf, afterOf, run}
-use Rattle.reader.specs.declared.lines.Step.{Step}
-use Rattle.reader.specs.declared.lines.Step.the-variants.{Next, Refused}
-use Rattle.reader.specs.Walk.{Stands, Ready}
-
-pub stands : {l : List ℤ} {slot : ℕ} {x : Res Held} {r : Step} {m : List ℤ} → r ≡ stepOf x → m ≡ afterOf l slot m x → Stands l slot x r m
-stands p q = record { step = p; after = q }
+use Rattle.reader.specs.Steps.{run}
+use Rattle.reader.specs.Walk.{Ready}
 
 -- ---- readings by place
 
@@ -67,19 +61,7 @@ module _ (n : ℕ) (c : Codec Held) (d : Held → Codec Held) (xs : List ℕ) (a
       → run ((beside n c d) .read) xs at ≡ mapRes {A = Held} (λ b. ((a .0, b .0), a .1 ++ b .1)) (run ((d a) .read) xs m)
   beside-got {a} {m} h = beside-run ∙ rw h (map-map (pairUp a) (λ (q : Held × Held). ((q .0 .0, q .1 .0), q .0 .1 ++ q .1 .1)) (run ((d a) .read) xs m))
 
--- ---- what a step tells of the reading
-
-pub stepped {ℓ} : {X : Type ℓ} (x : Res Held) {p n : ℕ} → stepOf x ≡ Next p n → ((v : List ℤ) → x ≡ got (p, v) n → X) → X
-stepped (got v k) {p} {n} e h = let e1 : v .0 ≡ p = cc in let e2 : k ≡ n = cc in h (v .1) (λ i. got (e1 i, v .1) (e2 i))
-stepped (bad q r) {p} {n} e h = let z : _≡_ {A = ℕ} 0 1 = cc in absurd (omega arith)
-
-pub stopped : (x : Res Held) {e p : ℕ} → stepOf x ≡ Refused e p → x ≡ bad e p
-stopped (bad q r) {e} {p} h = let e1 : q ≡ e = cc in let e2 : r ≡ p = cc in ap₂ bad e1 e2
-stopped (got v k) {e} {p} h = let z : _≡_ {A = ℕ} 0 1 = cc in absurd (omega arith)
-
--- the numbers of the first, and then what the second holds
-abbrev pub behind : List ℤ → Res Held → Res Held
-behind v y = mapRes (λ (w : Held). (w .0, v ++ w .1)) y
+-- ---- slots
 
 -- zeros put where zeros are
 pub sets-zeros : (n : ℕ) (l : List ℤ) (slot : ℕ) → ((j : ℕ) → slot ≤ j → getD l j (pos 0) ≡ pos 0) → sets l slot (replicate n (pos 0)) ≡ l
@@ -110,39 +92,3 @@ ready-after {l} {slot} r v em en = record {
   len = ap length em ∙ length-sets l slot v ∙ r .len;
   zeros = λ j h. ap (λ x. getD x j (pos 0)) em ∙ getD-sets-over l slot v j (subst (_≤ j) en h) ∙ r .zeros j (omega arith);
 }
-
--- ---- a second reading behind a first
-
-step-behind : (v : List ℤ) (y : Res Held) → stepOf y ≡ stepOf (behind v y)
-step-behind v (got w n) = refl
-step-behind v (bad e p) = refl
-
-after-behind : (l : List ℤ) (slot : ℕ) (v : List ℤ) (m : List ℤ) (y : Res Held) → afterOf (sets l slot v) (slot + length v) m y ≡ afterOf l slot m (behind v y)
-after-behind l slot v m (got w n) = sym (sets-append l slot v (w .1))
-after-behind l slot v m (bad e p) = refl
-
--- m is the array after the first, whose numbers are v; next is where the slots of the second begin
-pub stands-behind : (l : List ℤ) (slot : ℕ) {x : Res Held} (v : List ℤ) {m : List ℤ} {next : ℕ} {y : Res Held} {r : Step} {q : List ℤ}
-    → m ≡ sets l slot v → next ≡ slot + length v → Stands m next y r q → x ≡ behind v y → Stands l slot x r q
-stands-behind l slot v {m} {next} {y} {r} {q} em en s ex = record {
-  step = s .step ∙ step-behind v y ∙ ap stepOf (sym ex);
-  after = s .after ∙ ap₂ (λ a b. afterOf a b q y) em en ∙ after-behind l slot v q y ∙ ap (afterOf l slot q) (sym ex);
-}
-
-pub stands-bad : (l : List ℤ) (slot : ℕ) {x : Res Held} (m : List ℤ) {r : Step} {e p : ℕ} → x ≡ bad e p → r ≡ Refused e p → Stands l slot x r m
-stands-bad l slot m ex er = record { step = er ∙ ap stepOf (sym ex); after = ap (afterOf l slot m) (sym ex) }
-
-pub stands-got : (l : List ℤ) (slot : ℕ) {x : Res Held} {m : List ℤ} {p n : ℕ} {v : List ℤ} → x ≡ got (p, v) n → m ≡ sets l slot v → Stands l slot x (Next p n) m
-stands-got l slot {m = m} ex em = record { step = ap stepOf (sym ex); after = em ∙ ap (afterOf l slot m) (sym ex) }
-
--- the same of an equal reading
-pub stands-same : {l : List ℤ} {slot : ℕ} {x y : Res Held} {r : Step} {m : List ℤ} → Stands l slot x r m → x ≡ y → Stands l slot y r m
-stands-same {l} {slot} {r = r} {m = m} s e = subst (λ y. Stands l slot y r m) e s
-
--- a reading that found something: its numbers, and the slots after it
-pub stood {ℓ} : {X : Type ℓ} {l : List ℤ} {slot : ℕ} {x : Res Held} {r : Step} {m : List ℤ} {p n : ℕ} → Stands l slot x r m → r ≡ Next p n
-    → ((v : List ℤ) → x ≡ got (p, v) n → m ≡ sets l slot v → X) → X
-stood {l = l} {slot = slot} {x = x} {m = m} s e h = stepped x (sym (s .step) ∙ e) λ v ex. h v ex (s .after ∙ ap (afterOf l slot m) ex)
-
-pub fell : {l : List ℤ} {slot : ℕ} {x : Res Held} {r : Step} {m : List ℤ} {e p : ℕ} → Stands l slot x r m → r ≡ Refused e p → x ≡ bad e p
-fell {x = x} s h = stopped x (sym (s .step) ∙ h)

@@ -1,36 +1,32 @@
 -- The arrays that the walk leaves are those of 01's record.
 use mathlib.Core.Path.{_≡_, refl, sym, ap, ap₂, _∙_, subst}
 use mathlib.Core.Bool.{Bool, true, false}
-use mathlib.Core.List.{List, [], _∷_, _++_}
-use Prim.Native.Nat.{ℕ, zero, suc, _+_, _-_, _≤_}
+use mathlib.Core.List.{List, [], _∷_}
+use Prim.Native.Nat.{ℕ, zero, suc, _+_, _≤_, _<_}
+use native.Mathlib.Nat.{not-suc-le-zero, le-of-suc-le-suc}
 use native.Mathlib.Omega.{arith}
 use borrow.Author.Tests.{ltb-false, eqb-true}
 use lib.Dec.{ltb, eqb}
-use lib.IntN.{ℤ, pos}
+use lib.IntN.{pos}
 use lib.ListN.{length, getD, take, drop, replicate, length-append, length-replicate}
 use Rattle.codec.specs.Pick.{pick}
 use Rattle.codec.specs.Codec.{Res, got, bad}
 use Rattle.codec.specs.Line.{Held}
 use Rattle.codec.specs.Item.{slots}
 use Rattle.codec.specs.Field.{firstFlag, nextFlags, flags, allZero}
-use Rattle.codec.specs.Frame.{Outcome, accepted, refused}
+use Rattle.codec.specs.Frame.{accepted, refused}
 use Rattle.codec.specs.Meaning.{lenOf}
 use Rattle.codec.specs.Laws.Long.{LongBy, many}
-use Rattle.codec.specs.Laws.Sets.{set-front}
 use Rattle.codec.specs.Laws.Frame.{mapOutcome}
-use Rattle.papers.specs.Papers.{known, paperOf, itemsOf, SLOTS, allSlots}
-use Rattle.papers.specs.Laws.Papers.{few-items, few-slots}
-use Rattle.layout.specs.declared.Reading.{Reading}
-use Rattle.layout.specs.declared.Answer.{Answer}
-use Rattle.layout.specs.declared.Answer.the-variants.{Accepted, Refused}
-use Rattle.layout.specs.Record.{allParts, allNumbers, flatten}
-use Rattle.scope.specs.Reading.{fieldOf, noRecord, shown, readOf}
+use Rattle.papers.specs.Papers.{known, itemsOf, SLOTS, allSlots}
+use Rattle.layout.specs.Record.{allNumbers}
+use Rattle.scope.specs.Reading.{fieldOf}
 use Rattle.spots.specs.Spots.{spotOf, itemOn, itemsFrom}
-use Rattle.spots.specs.Laws.Spots.{spots-right}
+use Rattle.spots.specs.Laws.Rows.{first-drop}
 use Rattle.reader.specs.Walk.{Ready}
 use Rattle.reader.specs.Rows.{placeRun, Found, found, goOn, rowFrom}
 use Rattle.reader.specs.Laws.Rows.{place-many}
-use Rattle.reader.specs.Fields.{ends, itemsIn, walkOf, answerTo, outAfter, WalkStands}
+use Rattle.reader.specs.Fields.{ends, itemsIn, walkOf}
 use Rattle.reader.specs.Laws.Fields.{field-walk}
 
 -- ---- arrays of zeros
@@ -43,35 +39,51 @@ ready-zeros = record { len = length-replicate SLOTS (pos 0); zeros = λ j h. zer
     zero-at (suc n) zero = refl
     zero-at (suc n) (suc j) = zero-at n j
 
--- ---- how many a row finds
+-- ---- a row that was found: how many it has, and each item by its index
 
-pub record Sized (n m : ℕ) (f : Found) : Type 0 where
-  pub parts : length (allParts (f .0)) ≡ n
-  pub numbers : length (allNumbers (f .0)) ≡ m
+pub record Sized (k n : ℕ) (ds xs : List ℕ) (at : ℕ) (f : Found) : Type 0 where
+  pub all : length (f .0) ≡ n
   pub places : length (f .1) ≡ n
+  pub numbers : length (allNumbers (f .0)) ≡ allSlots (itemsFrom k n)
+  pub each : (i : ℕ) → i < n → placeRun (k + i) (eqb (getD ds i 0) 1) xs (getD (at ∷ f .1) i 0) ≡ got (getD (f .0) i (0, [])) (getD (f .1) i 0)
 
-abbrev RowSized : ℕ → ℕ → Res Found → Type 0
-RowSized n m (got f e) = Sized n m f
-RowSized n m (bad e p) = Unit {0}
+abbrev pub RowSized : ℕ → ℕ → List ℕ → List ℕ → ℕ → Res Found → Type 0
+RowSized k n ds xs at (got f e) = Sized k n ds xs at f
+RowSized k n ds xs at (bad e p) = Unit {0}
 
-pub row-sized : (k n : ℕ) (ds xs : List ℕ) (at : ℕ) → RowSized n (allSlots (itemsFrom k n)) (rowFrom k n ds xs at)
-unfolding rowFrom itemsFrom allSlots allParts allNumbers
-row-sized k zero ds xs at = record { parts = refl; numbers = refl; places = refl }
-row-sized k (suc n) ds xs at = by (λ m. row-sized (k + 1) n (nextFlags ds) xs m) (placeRun k (eqb (firstFlag ds) 1) xs at) (place-many k (eqb (firstFlag ds) 1) xs at)
+next-flag : (ds : List ℕ) (i : ℕ) → getD ds (suc i) 0 ≡ getD (nextFlags ds) i 0
+unfolding nextFlags
+next-flag [] i = refl
+next-flag (d ∷ ds) i = refl
+
+pub row-sized : (k n : ℕ) (ds xs : List ℕ) (at : ℕ) → RowSized k n ds xs at (rowFrom k n ds xs at)
+unfolding rowFrom itemsFrom allSlots allNumbers
+row-sized k zero ds xs at = record { all = refl; places = refl; numbers = refl; each = λ i h. absurd (not-suc-le-zero h) }
+row-sized k (suc n) ds xs at = by (λ m. row-sized (k + 1) n (nextFlags ds) xs m) (placeRun k (eqb (firstFlag ds) 1) xs at) refl
   where
-    next : (v : Held) (m : ℕ) → length (v .1) ≡ slots (itemOn k) → (x : Res Found) → RowSized n (allSlots (itemsFrom (k + 1) n)) x → RowSized (suc n) (slots (itemOn k) + allSlots (itemsFrom (k + 1) n)) (found v m x)
-    next v m l (bad e p) s = tt
-    next v m l (got f e) s = record { parts = ap suc (s .parts); numbers = length-append (v .1) (allNumbers (f .0)) ∙ ap₂ _+_ l (s .numbers); places = ap suc (s .places) }
+    next : (v : Held) (m : ℕ) → placeRun k (eqb (firstFlag ds) 1) xs at ≡ got v m → (x : Res Found) → RowSized (k + 1) n (nextFlags ds) xs m x → RowSized k (suc n) ds xs at (found v m x)
+    next v m ev (bad e p) s = tt
+    next v m ev (got f e) s = record {
+      all = ap suc (s .all);
+      places = ap suc (s .places);
+      numbers = length-append (v .1) (allNumbers (f .0)) ∙ ap₂ _+_ (subst (LongBy many (slots (itemOn k))) ev (place-many k (eqb (firstFlag ds) 1) xs at)) (s .numbers);
+      each = at-index;
+    }
+      where
+        at-index : (i : ℕ) → i < suc n → placeRun (k + i) (eqb (getD ds i 0) 1) xs (getD (at ∷ m ∷ f .1) i 0) ≡ got (getD (v ∷ f .0) i (0, [])) (getD (m ∷ f .1) i 0)
+        at-index zero h = ap₂ (λ j d. placeRun j (eqb d 1) xs at) (omega arith) (sym (first-drop 0 ds)) ∙ ev
+        at-index (suc i) h = ap₂ (λ j d. placeRun j (eqb d 1) xs (getD (m ∷ f .1) i 0)) (omega arith) (next-flag ds i) ∙ s .each i (le-of-suc-le-suc h)
 
-    by : ((m : ℕ) → RowSized n (allSlots (itemsFrom (k + 1) n)) (rowFrom (k + 1) n (nextFlags ds) xs m)) → (y : Res Held) → LongBy many (slots (itemOn k)) y → RowSized (suc n) (slots (itemOn k) + allSlots (itemsFrom (k + 1) n)) (goOn y (λ m. rowFrom (k + 1) n (nextFlags ds) xs m))
-    by ih (bad e p) l = tt
-    by ih (got v m) l = next v m l (rowFrom (k + 1) n (nextFlags ds) xs m) (ih m)
+    by : ((m : ℕ) → RowSized (k + 1) n (nextFlags ds) xs m (rowFrom (k + 1) n (nextFlags ds) xs m)) → (y : Res Held) → placeRun k (eqb (firstFlag ds) 1) xs at ≡ y → RowSized k (suc n) ds xs at (goOn y (λ m. rowFrom (k + 1) n (nextFlags ds) xs m))
+    by ih (bad e p) ey = tt
+    by ih (got v m) ey = next v m ey (rowFrom (k + 1) n (nextFlags ds) xs m) (ih m)
 
 -- ---- a field that is accepted
 
 pub record Walked (cat : ℕ) (s : List ℕ) (f : Found) : Type 0 where
   pub known-is : known cat ≡ true
   pub two : 2 ≤ length s
+  pub whole : lenOf s ≤ length s
   pub row-is : rowFrom (spotOf cat) (itemsOf cat) (flags (getD s 1 0)) (take (lenOf s) s) 2 ≡ got f (length (take (lenOf s) s))
 
 in-row : (cat ind : ℕ) (xs : List ℕ) (f : Found) → itemsIn cat ind xs ≡ accepted f → rowFrom (spotOf cat) (itemsOf cat) (flags ind) xs 2 ≡ got f (length xs)
@@ -104,59 +116,15 @@ walked cat (len ∷ t) f h = go (known cat) refl (ltb len 2) refl (ltb (suc (len
     go true eb false ex false ey h =
         let a : 2 ≤ len = ltb-false len 2 ex in
         let b : len ≤ suc (length t) = ltb-false (suc (length t)) len ey in
-        record { known-is = eb; two = omega arith; row-is = in-row cat (getD (len ∷ t) 1 0) (take len (len ∷ t)) f h }
+        record { known-is = eb; two = omega arith; whole = b; row-is = in-row cat (getD (len ∷ t) 1 0) (take len (len ∷ t)) f h }
 
-pub found-sized : (cat : ℕ) (s : List ℕ) (f : Found) → Walked cat s f → Sized (itemsOf cat) (allSlots (itemsFrom (spotOf cat) (itemsOf cat))) f
-found-sized cat s f k =
-    subst (RowSized (itemsOf cat) (allSlots (itemsFrom (spotOf cat) (itemsOf cat)))) (k .row-is) (row-sized (spotOf cat) (itemsOf cat) (flags (getD s 1 0)) (take (lenOf s) s) 2)
+pub found-sized : (cat : ℕ) (s : List ℕ) (f : Found) → Walked cat s f → Sized (spotOf cat) (itemsOf cat) (flags (getD s 1 0)) (take (lenOf s) s) 2 f
+found-sized cat s f k = subst (RowSized (spotOf cat) (itemsOf cat) (flags (getD s 1 0)) (take (lenOf s) s) 2) (k .row-is) (row-sized (spotOf cat) (itemsOf cat) (flags (getD s 1 0)) (take (lenOf s) s) 2)
 
--- what the walk found, by its answer
-module _ {l : List ℤ} {ps ss : List ℕ} {len : ℕ} {o : Outcome Found} {a : Answer} {m : List ℤ} {qs ts : List ℕ} (w : WalkStands l ps ss len o a m qs ts) where
-  pub walk-found {ℓ} : {n : ℕ} → a ≡ Accepted n → (X : Type ℓ) → ((f : Found) → o ≡ accepted f → X) → X
-  walk-found {n} ea X k = go o refl (sym (w .answer) ∙ ea)
-    where
-      go : (x : Outcome Found) → o ≡ x → answerTo len x ≡ Accepted n → X
-      go (accepted f) eo es = k f eo
-      go (refused q r) eo es = let z : _≡_ {A = ℕ} 0 1 = cc in absurd (omega arith)
-
-  pub walk-fell : {q r : ℕ} → a ≡ Refused q r → o ≡ refused q r
-  walk-fell {q} {r} ea = go o refl (sym (w .answer) ∙ ea)
-    where
-      go : (x : Outcome Found) → o ≡ x → answerTo len x ≡ Refused q r → o ≡ refused q r
-      go (accepted f) eo es = let z : _≡_ {A = ℕ} 0 1 = cc in absurd (omega arith)
-      go (refused i j) eo es =
-          let a1 : i ≡ q = cc in
-          let a2 : j ≡ r = cc in
-          eo ∙ ap₂ refused a1 a2
-
--- ---- the ways out of `read`
+-- ---- what the field holds
 
 pub field-found : (cat : ℕ) (s : List ℕ) (f : Found) → walkOf cat s ≡ accepted f → fieldOf cat s ≡ accepted (getD s 1 0, f .0)
 field-found cat s f e = field-walk cat s ∙ ap (mapOutcome (λ (f : Found). (getD s 1 0, f .0))) e
 
 pub field-fell : (cat : ℕ) (s : List ℕ) {q r : ℕ} → walkOf cat s ≡ refused q r → fieldOf cat s ≡ refused q r
 field-fell cat s e = field-walk cat s ∙ ap (mapOutcome (λ (f : Found). (getD s 1 0, f .0))) e
-
-module _ (cat : ℕ) (s : List ℕ) {a : Answer} {m : List ℤ} {qs ts ss : List ℕ} (w : WalkStands (replicate SLOTS (pos 0)) (replicate 8 0) ss (lenOf s) (walkOf cat s) a m qs ts) where
-  -- the indicator may be looked at
-  pub two-there : {n : ℕ} → a ≡ Accepted n → 2 ≤ length s
-  two-there ea = walk-found w ea (2 ≤ length s) λ f ef. (walked cat s f ef) .two
-
-  pub read-refused : {q r : ℕ} → a ≡ Refused q r → _≡_ {A = Reading} (record { answer = a; kept = record { cat = 0; items = 0; parts = replicate 8 0; numbers = replicate SLOTS (pos 0) } }) (readOf cat s)
-  unfolding readOf shown noRecord
-  read-refused ea = rw (field-fell cat s (walk-fell w ea), ea) refl
-
-  pub read-accepted : {n : ℕ} → a ≡ Accepted n → _≡_ {A = Reading} (record { answer = a; kept = record { cat = cat; items = getD s 1 0; parts = qs; numbers = m } }) (readOf cat s)
-  unfolding readOf shown flatten
-  read-accepted ea =
-      walk-found w ea (_≡_ {A = Reading} (record { answer = a; kept = record { cat = cat; items = getD s 1 0; parts = qs; numbers = m } }) (readOf cat s)) λ f ef.
-      let k : Walked cat s f = walked cat s f ef in
-      let z : Sized (itemsOf cat) (allSlots (itemsFrom (spotOf cat) (itemsOf cat))) f = found-sized cat s f k in
-      let zn : length (allNumbers (f .0)) ≡ allSlots (paperOf cat) = z .numbers ∙ ap allSlots ((spots-right cat (k .known-is)) .items-are) in
-      let ep : qs ≡ allParts (f .0) ++ replicate (8 - itemsOf cat) 0
-      = w .parts ∙ ap (outAfter (replicate 8 0) 0 (λ f. allParts (f .0)) qs) ef ∙ set-front 0 8 (allParts (f .0)) (itemsOf cat) (z .parts) (few-items cat) in
-      let en : m ≡ allNumbers (f .0) ++ replicate (SLOTS - allSlots (paperOf cat)) (pos 0)
-      = w .numbers ∙ ap (outAfter (replicate SLOTS (pos 0)) 0 (λ f. allNumbers (f .0)) m) ef ∙ set-front (pos 0) SLOTS (allNumbers (f .0)) (allSlots (paperOf cat)) zn (few-slots cat) in
-      let el : a ≡ Accepted (lenOf s) = w .answer ∙ ap (answerTo (lenOf s)) ef in
-      (λ i. record { answer = el i; kept = record { cat = cat; items = getD s 1 0; parts = ep i; numbers = en i } })
-      ∙ sym (ap (shown cat s) (field-found cat s f ef))

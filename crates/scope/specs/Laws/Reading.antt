@@ -1,29 +1,30 @@
 -- What lies behind a field that was accepted, and both round trips of the definitions: "Writing what was read gives the same octets; reading what was written gives the same record".
 use mathlib.Core.Path.{_≡_, refl, sym, ap, ap₂, _∙_, subst}
 use mathlib.Core.Bool.{Bool, true, false}
-use mathlib.Core.List.{List, _++_}
-use Prim.Native.Nat.{ℕ, _+_, _-_}
+use mathlib.Core.List.{List, _∷_, _++_}
+use Prim.Native.Nat.{ℕ, suc, _+_, _-_, _≤_}
 use native.Mathlib.Nat.{le-trans}
 use native.Mathlib.Omega.{arith}
 use lib.Dec.{T, eqb→eq}
-use lib.ListN.{length, take}
+use lib.ListN.{length, getD, take, drop, replicate, take-append-drop, length-append, length-replicate}
 use Rattle.codec.specs.Pick.{pick}
 use Rattle.codec.specs.Codec.{Octets}
-use Rattle.codec.specs.Field.{Contents, body}
+use Rattle.codec.specs.Item.{Item}
+use Rattle.codec.specs.Field.{Contents, body, flags, flat, textsOf}
 use Rattle.codec.specs.Frame.{Outcome, accepted, refused, readFrame, writeFrame, okayFrame}
 use Rattle.codec.specs.Meaning.{lenOf}
 use Rattle.codec.specs.Laws.Tests.{and-l, and-r, holds}
-use Rattle.codec.specs.Laws.Field.{lawful-body}
+use Rattle.codec.specs.Laws.Field.{lawful-body, row-okay, body-write}
 use Rattle.codec.specs.Laws.Frame.{Front, refused≢accepted, mapOutcome, frame-via, read-again, accepted-front, frame-octets}
 use Rattle.codec.specs.Laws.Longest.{okay-alone}
 use Rattle.papers.specs.Papers.{known, paperOf}
-use Rattle.papers.specs.Laws.Papers.{good-paper, few-octets}
+use Rattle.papers.specs.Laws.Papers.{good-paper, few-items, few-octets}
 use Rattle.layout.specs.declared.Record.{Record}
 use Rattle.layout.specs.declared.Reading.{Reading}
 use Rattle.layout.specs.declared.Answer.the-variants.{Accepted, Refused}
-use Rattle.layout.specs.Record.{flatten, unflatten, fitsPaper, contents}
+use Rattle.layout.specs.Record.{allParts, flatten, unflatten, fitsPaper, contents}
 use Rattle.layout.specs.Laws.Answer.{Accepted≢Refused, Refused≢Accepted}
-use Rattle.layout.specs.Laws.Record.{lawful-contents}
+use Rattle.layout.specs.Laws.Record.{length-parts, lawful-contents}
 use Rattle.scope.specs.Reading.{fieldOf, shown, readOf}
 use Rattle.scope.specs.Survey.{surveyed, surveyOf}
 use Rattle.scope.specs.Writing.{writable, written}
@@ -132,6 +133,25 @@ module _ (cat : ℕ) (s : List ℕ) (o : Octets s) (n : ℕ) (e : readOf cat s .
   pub read-category : readOf cat s .kept .cat ≡ cat
   unfolding flatten
   read-category = ap (λ (f : Record). f .cat) ((read-found cat s n e) .kept-is)
+
+  -- LEN and the indicator are there, and the record's items are the indicator
+  pub read-items : (2 ≤ length s) × (readOf cat s .kept .items ≡ getD s 1 0)
+  unfolding flatten writeFrame
+  read-items =
+      let r = read-found cat s n e in
+      let xs : List ℕ = flat (textsOf (paperOf cat) (r .what)) in
+      let front : take (lenOf s) s ≡ suc (suc (length xs)) ∷ r .what .0 ∷ xs = (read-front o r) .front ∙ ap (λ b. suc (length b) ∷ b) (body-write (paperOf cat) (r .what)) in
+      let is : s ≡ suc (suc (length xs)) ∷ r .what .0 ∷ (xs ++ drop (lenOf s) s) = sym (take-append-drop (lenOf s) s) ∙ ap (_++ drop (lenOf s) s) front in
+      (omega (arith, ap length is), ap (λ (f : Record). f .items) (r .kept-is) ∙ sym (ap (λ x. getD x 1 0) is))
+
+  pub read-parts : length (readOf cat s .kept .parts) ≡ 8
+  unfolding flatten
+  read-parts =
+      let r = read-found cat s n e in
+      let its : List Item = paperOf cat in
+      let ps : List ℕ = allParts (r .what .1) in
+      let lp : length ps ≡ length its = length-parts (flags (r .what .0)) its (r .what .1) (row-okay its (r .what) (read-okay o r)) in
+      ap (λ (f : Record). length (f .parts)) (r .kept-is) ∙ omega (arith, length-append ps (replicate (8 - length its) 0), length-replicate {A = ℕ} (8 - length its) 0, few-items cat)
 
 -- ---- "reading what was written gives the same record", whatever follows
 
