@@ -83,131 +83,94 @@ fn last(s: &[u8], a: usize, o: u8, i: usize, b: usize) -> usize
     a
 }
 
-// The flags of a second part, none where the part before it does not go on.
-fn second(s: &[u8], at: usize) -> u8
+// The flags of a second part, none where the first, whose flags are f, does not go on.
+fn second(s: &[u8], at: usize, f: u8) -> u8
     requires { ⌜ at < 65_536 ⌝ }
-    ensures { λ r. ⌜ r ≡ pick (eqb (getD (now (s .entry)) at 0 % 2) 1) (getD (now (s .entry)) (at + 1) 0) 0 ⌝ }
+    ensures { λ r. ⌜ r ≡ pick (eqb (f % 2) 1) (getD (now (s .entry)) (at + 1) 0) 0 ⌝ }
 {
-    if octet_at(s, at) % 2 == 1 {
+    if f % 2 == 1 {
         return octet_at(s, at + 1);
     }
     0
 }
 
-// The items that have more than one line, each in the order of its lines, if their flag says that they are there. Line numbers stand here as literals, so that
-// the rows of the table are constants.
-fn md5(s: &[u8], a: usize, o: u8, i: usize) -> usize
-    requires { ⌜ length (now s) < 65_536 ⌝ }
-    ensures { λ r. ⌜ Went (flagAt o i) (itemRun 0 (now (s .entry)) a) a r ⌝ }
+// The items that have more than one line, each in the order of its lines. Line numbers stand here as literals, so that the rows of the table are constants.
+fn md5(s: &[u8], at: usize) -> usize
+    requires { ⌜ (length (now s) < 65_536) × (at < 65_536) ⌝ }
+    ensures { λ r. ⌜ Ends (itemRun 0 (now (s .entry)) at) r ⌝ }
 {
-    if BAD <= a {
-        return a;
-    }
-    if flags::present(o, i) {
-        let part = only(s, a, 0);
-        let f = octet_at(s, a);
-        let sum = line(s, part, f, 0, 1);
-        let pmn = line(s, sum, f, 1, 2);
-        let pos = line(s, pmn, f, 2, 3);
-        let ga = line(s, pos, f, 3, 4);
-        let em1 = line(s, ga, f, 4, 5);
-        let tos = line(s, em1, f, 5, 6);
-        return line(s, tos, f, 6, 7);
-    }
-    a
+    let f = octet_at(s, at);
+    let part = only(s, at, 0);
+    let sum = line(s, part, f, 0, 1);
+    let pmn = line(s, sum, f, 1, 2);
+    let pos = line(s, pmn, f, 2, 3);
+    let ga = line(s, pos, f, 3, 4);
+    let em1 = line(s, ga, f, 4, 5);
+    let tos = line(s, em1, f, 5, 6);
+    line(s, tos, f, 6, 7)
 }
 
-fn m5n(s: &[u8], a: usize, o: u8, i: usize) -> usize
-    requires { ⌜ length (now s) < 65_536 ⌝ }
-    ensures { λ r. ⌜ Went (flagAt o i) (itemRun 1 (now (s .entry)) a) a r ⌝ }
+fn m5n(s: &[u8], at: usize) -> usize
+    requires { ⌜ (length (now s) < 65_536) × (at < 65_536) ⌝ }
+    ensures { λ r. ⌜ Ends (itemRun 1 (now (s .entry)) at) r ⌝ }
 {
-    if BAD <= a {
-        return a;
-    }
-    if flags::present(o, i) {
-        let part = lines::seen(s, a, 8);
-        let parts = last(s, part, before(s, part), 7, 9);
-        let f = octet_at(s, a);
-        let sum = line(s, parts, f, 0, 10);
-        let pmn = line(s, sum, f, 1, 11);
-        let pos = line(s, pmn, f, 2, 12);
-        let ga = line(s, pos, f, 3, 13);
-        let em1 = line(s, ga, f, 4, 14);
-        let tos = line(s, em1, f, 5, 15);
-        let xp = line(s, tos, f, 6, 16);
-        return line(s, xp, second(s, a), 0, 17);
-    }
-    a
+    let f = octet_at(s, at);
+    let part = lines::seen(s, at, 8);
+    let parts = last(s, part, before(s, part), 7, 9);
+    let sum = line(s, parts, f, 0, 10);
+    let pmn = line(s, sum, f, 1, 11);
+    let pos = line(s, pmn, f, 2, 12);
+    let ga = line(s, pos, f, 3, 13);
+    let em1 = line(s, ga, f, 4, 14);
+    let tos = line(s, em1, f, 5, 15);
+    let xp = line(s, tos, f, 6, 16);
+    line(s, xp, second(s, at, f), 0, 17)
 }
 
-fn rpc(s: &[u8], a: usize, o: u8, i: usize) -> usize
-    requires { ⌜ length (now s) < 65_536 ⌝ }
-    ensures { λ r. ⌜ Went (flagAt o i) (itemRun 3 (now (s .entry)) a) a r ⌝ }
+fn rpc(s: &[u8], at: usize) -> usize
+    requires { ⌜ (length (now s) < 65_536) × (at < 65_536) ⌝ }
+    ensures { λ r. ⌜ Ends (itemRun 3 (now (s .entry)) at) r ⌝ }
 {
-    if BAD <= a {
-        return a;
-    }
-    if flags::present(o, i) {
-        let part = only(s, a, 19);
-        let f = octet_at(s, a);
-        let sco = line(s, part, f, 0, 20);
-        let scr = line(s, sco, f, 1, 21);
-        let rw = line(s, scr, f, 2, 22);
-        return line(s, rw, f, 3, 23);
-    }
-    a
+    let f = octet_at(s, at);
+    let part = only(s, at, 19);
+    let sco = line(s, part, f, 0, 20);
+    let scr = line(s, sco, f, 1, 21);
+    let rw = line(s, scr, f, 2, 22);
+    line(s, rw, f, 3, 23)
 }
 
-fn sgv(s: &[u8], a: usize, o: u8, i: usize) -> usize
-    requires { ⌜ length (now s) < 65_536 ⌝ }
-    ensures { λ r. ⌜ Went (flagAt o i) (itemRun 9 (now (s .entry)) a) a r ⌝ }
+fn sgv(s: &[u8], at: usize) -> usize
+    requires { ⌜ (length (now s) < 65_536) × (at < 65_536) ⌝ }
+    ensures { λ r. ⌜ Ends (itemRun 9 (now (s .entry)) at) r ⌝ }
 {
-    if BAD <= a {
-        return a;
-    }
-    if flags::present(o, i) {
-        let part = lines::seen(s, a, 29);
-        return last(s, part, before(s, part), 7, 30);
-    }
-    a
+    let part = lines::seen(s, at, 29);
+    last(s, part, before(s, part), 7, 30)
 }
 
-fn sta(s: &[u8], a: usize, o: u8, i: usize) -> usize
-    requires { ⌜ length (now s) < 65_536 ⌝ }
-    ensures { λ r. ⌜ Went (flagAt o i) (itemRun 10 (now (s .entry)) a) a r ⌝ }
+fn sta(s: &[u8], at: usize) -> usize
+    requires { ⌜ (length (now s) < 65_536) × (at < 65_536) ⌝ }
+    ensures { λ r. ⌜ Ends (itemRun 10 (now (s .entry)) at) r ⌝ }
 {
-    if BAD <= a {
-        return a;
-    }
-    if flags::present(o, i) {
-        let part = lines::seen(s, a, 31);
-        let second = line(s, part, before(s, part), 7, 32);
-        let third = line(s, second, before(s, second), 7, 33);
-        let fourth = line(s, third, before(s, third), 7, 34);
-        let fifth = line(s, fourth, before(s, fourth), 7, 35);
-        return last(s, fifth, before(s, fifth), 7, 36);
-    }
-    a
+    let part = lines::seen(s, at, 31);
+    let second = line(s, part, before(s, part), 7, 32);
+    let third = line(s, second, before(s, second), 7, 33);
+    let fourth = line(s, third, before(s, third), 7, 34);
+    let fifth = line(s, fourth, before(s, fourth), 7, 35);
+    last(s, fifth, before(s, fifth), 7, 36)
 }
 
-fn mes(s: &[u8], a: usize, o: u8, i: usize) -> usize
-    requires { ⌜ length (now s) < 65_536 ⌝ }
-    ensures { λ r. ⌜ Went (flagAt o i) (itemRun 12 (now (s .entry)) a) a r ⌝ }
+fn mes(s: &[u8], at: usize) -> usize
+    requires { ⌜ (length (now s) < 65_536) × (at < 65_536) ⌝ }
+    ensures { λ r. ⌜ Ends (itemRun 12 (now (s .entry)) at) r ⌝ }
 {
-    if BAD <= a {
-        return a;
-    }
-    if flags::present(o, i) {
-        let part = only(s, a, 38);
-        let f = octet_at(s, a);
-        let sum = line(s, part, f, 0, 39);
-        let pno = line(s, sum, f, 1, 40);
-        let em1 = line(s, pno, f, 2, 41);
-        let xp = line(s, em1, f, 3, 42);
-        let fom = line(s, xp, f, 4, 43);
-        return line(s, fom, f, 5, 44);
-    }
-    a
+    let f = octet_at(s, at);
+    let part = only(s, at, 38);
+    let sum = line(s, part, f, 0, 39);
+    let pno = line(s, sum, f, 1, 40);
+    let em1 = line(s, pno, f, 2, 41);
+    let xp = line(s, em1, f, 3, 42);
+    let fom = line(s, xp, f, 4, 43);
+    line(s, fom, f, 5, 44)
 }
 
 // One item of those that some paper has, from the first octet on.
@@ -216,22 +179,101 @@ pub fn item(s: &[u8], k: usize) -> usize
     ensures { λ r. ⌜ Ends (itemRun k (now (s .entry)) 0) r ⌝ }
 {
     match k {
-        0 => md5(s, 0, 128, 0),
-        1 => m5n(s, 0, 128, 0),
+        0 => md5(s, 0),
+        1 => m5n(s, 0),
         2 => only(s, 0, 18),
-        3 => rpc(s, 0, 128, 0),
+        3 => rpc(s, 0),
         4 => lines::seen(s, 0, 24),
         5 => lines::seen(s, 0, 25),
         6 => lines::seen(s, 0, 26),
         7 => lines::seen(s, 0, 27),
         8 => lines::seen(s, 0, 28),
-        9 => sgv(s, 0, 128, 0),
-        10 => sta(s, 0, 128, 0),
+        9 => sgv(s, 0),
+        10 => sta(s, 0),
         11 => lines::seen(s, 0, 37),
-        12 => mes(s, 0, 128, 0),
+        12 => mes(s, 0),
         13 => lines::seen(s, 0, 45),
         _ => lines::seen(s, 0, NO_LINE),
     }
+}
+
+// The same items, if a flag says that they are there. Each is asked before it is called, so that an absent one costs no call.
+fn md5_there(s: &[u8], a: usize, o: u8, i: usize) -> usize
+    requires { ⌜ length (now s) < 65_536 ⌝ }
+    ensures { λ r. ⌜ Went (flagAt o i) (itemRun 0 (now (s .entry)) a) a r ⌝ }
+{
+    if BAD <= a {
+        return a;
+    }
+    if flags::present(o, i) {
+        return md5(s, a);
+    }
+    a
+}
+
+fn m5n_there(s: &[u8], a: usize, o: u8, i: usize) -> usize
+    requires { ⌜ length (now s) < 65_536 ⌝ }
+    ensures { λ r. ⌜ Went (flagAt o i) (itemRun 1 (now (s .entry)) a) a r ⌝ }
+{
+    if BAD <= a {
+        return a;
+    }
+    if flags::present(o, i) {
+        return m5n(s, a);
+    }
+    a
+}
+
+fn rpc_there(s: &[u8], a: usize, o: u8, i: usize) -> usize
+    requires { ⌜ length (now s) < 65_536 ⌝ }
+    ensures { λ r. ⌜ Went (flagAt o i) (itemRun 3 (now (s .entry)) a) a r ⌝ }
+{
+    if BAD <= a {
+        return a;
+    }
+    if flags::present(o, i) {
+        return rpc(s, a);
+    }
+    a
+}
+
+fn sgv_there(s: &[u8], a: usize, o: u8, i: usize) -> usize
+    requires { ⌜ length (now s) < 65_536 ⌝ }
+    ensures { λ r. ⌜ Went (flagAt o i) (itemRun 9 (now (s .entry)) a) a r ⌝ }
+{
+    if BAD <= a {
+        return a;
+    }
+    if flags::present(o, i) {
+        return sgv(s, a);
+    }
+    a
+}
+
+fn sta_there(s: &[u8], a: usize, o: u8, i: usize) -> usize
+    requires { ⌜ length (now s) < 65_536 ⌝ }
+    ensures { λ r. ⌜ Went (flagAt o i) (itemRun 10 (now (s .entry)) a) a r ⌝ }
+{
+    if BAD <= a {
+        return a;
+    }
+    if flags::present(o, i) {
+        return sta(s, a);
+    }
+    a
+}
+
+fn mes_there(s: &[u8], a: usize, o: u8, i: usize) -> usize
+    requires { ⌜ length (now s) < 65_536 ⌝ }
+    ensures { λ r. ⌜ Went (flagAt o i) (itemRun 12 (now (s .entry)) a) a r ⌝ }
+{
+    if BAD <= a {
+        return a;
+    }
+    if flags::present(o, i) {
+        return mes(s, a);
+    }
+    a
 }
 
 // The step of a row of items, and where each of them begins, an absent one with the next; behind the last item where it ends.
@@ -241,10 +283,10 @@ fn row_048(s: &[u8], ind: u8) -> Places
     requires { ⌜ length (now s) < 65_536 ⌝ }
     ensures { λ r. ⌜ RowSeen (placesFrom 0 5 (flags ind) (now (s .entry))) 5 r ⌝ }
 {
-    let md5 = md5(s, 2, ind, 0);
-    let m5n = m5n(s, md5, ind, 1);
+    let md5 = md5_there(s, 2, ind, 0);
+    let m5n = m5n_there(s, md5, ind, 1);
     let m4e = last(s, m5n, ind, 2, 18);
-    let rpc = rpc(s, m4e, ind, 3);
+    let rpc = rpc_there(s, m4e, ind, 3);
     let err = line(s, rpc, ind, 4, 24);
     Places(
         err,
@@ -270,10 +312,10 @@ fn row_021(s: &[u8], ind: u8) -> Places
     let selh = line(s, bps, ind, 1, 26);
     let nav = line(s, selh, ind, 2, 27);
     let gao = line(s, nav, ind, 3, 28);
-    let sgv = sgv(s, gao, ind, 4);
-    let sta = sta(s, sgv, ind, 5);
+    let sgv = sgv_there(s, gao, ind, 4);
+    let sta = sta_there(s, sgv, ind, 5);
     let tnh = line(s, sta, ind, 6, 37);
-    let mes = mes(s, tnh, ind, 7);
+    let mes = mes_there(s, tnh, ind, 7);
     Places(
         mes,
         [
@@ -295,9 +337,9 @@ fn row_007(s: &[u8], ind: u8) -> Places
     ensures { λ r. ⌜ RowSeen (placesFrom 13 5 (flags ind) (now (s .entry))) 5 r ⌝ }
 {
     let ta = line(s, 2, ind, 0, 45);
-    let m5n = m5n(s, ta, ind, 1);
+    let m5n = m5n_there(s, ta, ind, 1);
     let m4e = last(s, m5n, ind, 2, 18);
-    let rpc = rpc(s, m4e, ind, 3);
+    let rpc = rpc_there(s, m4e, ind, 3);
     let err = line(s, rpc, ind, 4, 24);
     Places(
         err,

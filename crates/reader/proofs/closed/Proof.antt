@@ -14,15 +14,13 @@ returns c = let i = c .before .before in rw (le-leb 65_536 (i .before .args .row
 returns-2 : tie.Need-returns-2
 unfolding closedOf
 returns-2 c =
-    let i = c .before in
-    let a = i .before .before .args in
+    let i = c .before in let a = i .before .before .args in
     rw (lt-leb 65_536 (a .row .0) (omega (arith, i .before .if1 .left)), eq-eqb (a .row .0) (a .len) (i .if2 .taken)) refl
 
 returns-3 : tie.Need-returns-3
 unfolding closedOf
 returns-3 c =
-    let i = c .before in
-    let a = i .before .before .args in
+    let i = c .before in let a = i .before .before .args in
     rw (lt-leb 65_536 (a .row .0) (omega (arith, i .before .if1 .left)), ne-eqb (a .row .0) (a .len) (i .if2 .left)) (c .unplaced2 .ensures)
 
 pub closed-spec : {M : Type 1} → statement M

@@ -18,22 +18,13 @@ row-requires c κs = let s = c .before .before .before in (omega (arith, s .pre 
 
 returns : tie.Need-returns
 returns c =
-    let w = c .before in
-    let i = w .before in
-    let m = i .before in
-    let s = m .before .before in
-    let a = s .args in
-    let xs = now (a .s) in
+    let w = c .before in let i = w .before in let m = i .before in let s = m .before .before in let a = s .args in let xs = now (a .s) in
     c .closed .ensures ∙ closed-is (spotOf (a .cat)) (itemsOf (a .cat)) (flags (a .ind)) xs (w .row .ensures) (a .ind) (length xs) (s .pre .1)
     ∙ ap (surveyedBy (itemsOf (a .cat)) (length xs) (a .ind)) (sym (items-in (a .cat) (a .ind) xs (spare-clear (a .cat) (a .ind) (s .fits .ind .fits) (m .spare-of .ensures) (i .if1 .taken))))
 
 returns-2 : tie.Need-returns-2
 returns-2 c =
-    let i = c .before in
-    let m = i .before in
-    let s = m .before .before in
-    let a = s .args in
-    let xs = now (a .s) in
+    let i = c .before in let m = i .before in let s = m .before .before in let a = s .args in let xs = now (a .s) in
     c .unplaced .ensures ∙ ap (surveyedBy (itemsOf (a .cat)) (length xs) (a .ind)) (sym (items-in (a .cat) (a .ind) xs (spare-set (a .cat) (a .ind) (s .fits .ind .fits) (m .spare-of .ensures) (i .if1 .left))))
 
 pub items-spec : {M : Type 1} → statement M

@@ -36,32 +36,22 @@ within-returns t c = let a = c .before .args in limits-none (a .code) (a .left) 
 
 within-piece-fits-requires : (t : ℕ) → within-lts.Need-piece-fits-requires (calls t) (within-at t) within.Post
 within-piece-fits-requires t c κs =
-    let i = c .before in
-    let s = i .before in
+    let i = c .before in let s = i .before in
     (omega arith, omega (arith, s .pre .1, c .less64 .ensures), first-narrow (s .args .code) (s .args .left) (i .if1 .left) (s .pre .1 .1))
 
 within-within-requires : (t : ℕ) → within-lts.Need-within-requires (calls t) (within-at t) within.Post
 within-within-requires t c κs =
-    let d = c .before .before in
-    let i = d .before in
-    let s = i .before in
+    let d = c .before .before in let i = d .before in let s = i .before in
     (omega (arith, s .pre .0, i .if1 .left), (omega (arith, s .pre .1, d .less64 .ensures), rest-narrow (s .args .code) (s .args .left) (i .if1 .left) (s .pre .1 .1)))
 
 within-returns-2 : (t : ℕ) → within-lts.Need-returns-2 (calls t) (within-at t) within.Post
 within-returns-2 t c =
-    let q = c .before in
-    let p = q .before in
-    let d = p .before in
-    let i = d .before in
-    let a = i .before .args in
+    let q = c .before in let p = q .before in let d = p .before in let i = d .before in let a = i .before .args in
     c .within .ensures ∙ sym (limits-on (a .code) (a .left) (i .if1 .left) (a .n) (a .shift) (d .less64 .ensures) (p .piece-fits .ensures) ∙ ap (_&& inLimits (piecesFrom (a .left - 1) (a .code / 256)) (numsAt (piecesFrom (a .left - 1) (a .code / 256)) (a .n) (d .less64 .result))) (q .if2 .taken))
 
 within-returns-3 : (t : ℕ) → within-lts.Need-returns-3 (calls t) (within-at t) within.Post
 within-returns-3 t c =
-    let p = c .before in
-    let d = p .before in
-    let i = d .before in
-    let a = i .before .args in
+    let p = c .before in let d = p .before in let i = d .before in let a = i .before .args in
     sym (limits-on (a .code) (a .left) (i .if1 .left) (a .n) (a .shift) (d .less64 .ensures) (p .piece-fits .ensures) ∙ ap (_&& inLimits (piecesFrom (a .left - 1) (a .code / 256)) (numsAt (piecesFrom (a .left - 1) (a .code / 256)) (a .n) (d .less64 .result))) (c .if2 .left))
 
 pub +within-spec : {M : Type 1} → statement M

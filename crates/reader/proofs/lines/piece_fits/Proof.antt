@@ -18,17 +18,12 @@ returns c = let a = c .before .args in free-fits (a .kind) (a .w) (a .n) (a .nex
 
 number-requires : tie.Need-number-requires
 number-requires c κs =
-    let k = c .before in
-    let s = k .before in
-    let a = s .args in
+    let k = c .before in let s = k .before in let a = s .args in
     (subst (_< 2 ^ (a .w)) (sym (c .low .ensures)) (mod-lt (a .n / 2 ^ (a .next)) (pow-pos (a .w))), s .pre .2 (λ e. omega (arith, e, k .if1 .left)))
 
 returns-2 : tie.Need-returns-2
 returns-2 c =
-    let n = c .before in
-    let l = n .before in
-    let k = l .before in
-    let a = k .before .args in
+    let n = c .before in let l = n .before in let k = l .before in let a = k .before .args in
     let z = toZ-ofZ {w = w32} {z = n .number .result} (sfits-of (n .number .ok)) in
     let e : n .number .result ≡ toNum (kindOf (a .kind)) (a .w) (a .n / 2 ^ (a .next) % 2 ^ (a .w)) = n .number .ensures ∙ ap (toNum (kindOf (a .kind)) (a .w)) (l .low .ensures) in
     c .fits2 .ensures ∙ rw z refl ∙ ap (limit (kindOf (a .kind))) e ∙ number-fits (a .kind) (a .w) (a .n) (a .next) (λ e. omega (arith, e, k .if1 .left))

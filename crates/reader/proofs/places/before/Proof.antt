@@ -15,8 +15,7 @@ unit n = omega arith
 
 returns : tie.Need-returns
 returns c =
-    let d = c .before in
-    let xs = now (d .before .before .args .s) in
+    let d = c .before in let xs = now (d .before .before .args .s) in
     let e = c .octet-at .ensures ∙ ap (λ i. getD xs i 0) (d .less .ensures) in
     ap (λ x. eqb x 1) (flag-bit (c .octet-at .result) 7 (c .octet-at .ok) (omega arith) ∙ unit (c .octet-at .result) ∙ ap (_% 2) e)
 

@@ -1,4 +1,4 @@
--- `reader::places::md5` meets its contract: one law at each way out, and one at each subfield. Assumes nothing.
+-- `reader::places::md5` meets its contract: one law at each subfield. Assumes nothing.
 use mathlib.Core.Path.{refl, sym}
 use native.Mathlib.Omega.{arith}
 use borrow.Author.Needs.{needs}
@@ -7,7 +7,7 @@ use Rattle.reader.specs.Laws.Tables.{total, cut, toNum, widths, count, n
 use Rattle.reader.specs.Laws.Items.{item-from}
 use Rattle.reader.specs.Laws.Parts.{Bits, bits, flag-is-bit, one-holds}
 use Rattle.reader.specs.Laws.Looked.{look-chain, look-on}
-use Rattle.reader.specs.Laws.Seen.{ends-same, went-stop, went-absent, went-there}
+use Rattle.reader.specs.Laws.Seen.{ends-same}
 use Rattle.reader.proofs.places.md5.Statement.{statement}
 use Rattle.reader.proofs.places.md5.Tie as tie
 
@@ -17,25 +17,14 @@ part-bits = record { part = refl; octet = refl; numbers = λ m. refl }
 
 only-requires : tie.Need-only-requires
 unfolding partsOk count placedAt placed placedIn placedFrom linesOf items cat048 cat021 cat007
-only-requires c κs = let i = c .before .before in (i .before .before .pre, omega (arith, i .if1 .left), tt)
+only-requires c κs = let s = c .before .before in (s .pre .0, s .pre .1, tt)
 
-returns-2 : tie.Need-returns-2
+returns : tie.Need-returns
 unfolding flagsUnder itemRun itemAt itemOf moreFrom linesFrom slotsOf count cut total placedAt placed placedIn placedFrom linesOf items cat048 cat021 cat007
-returns-2 c =
-    let s6 = c .before in
-    let s5 = s6 .before in
-    let s4 = s5 .before in
-    let s3 = s4 .before in
-    let s2 = s3 .before in
-    let s1 = s2 .before in
-    let o = s1 .before in
-    let p = o .before in
-    let q = p .before in
-    let i = q .before .before in
-    let a = i .before .before .args in
-    let xs = now (a .s) in
-    let f = o .octet-at .result in
-    let h0 = look-chain xs (bits 7 f) (p .only .ensures) (rw (o .octet-at .ensures) (one-holds 0 7 part-bits xs (a .a))) in
+returns c =
+    let s6 = c .before in let s5 = s6 .before in let s4 = s5 .before in let s3 = s4 .before in let s2 = s3 .before in let s1 = s2 .before in let p = s1 .before in
+    let o = p .before in let a = o .before .before .args in let xs = now (a .s) in let f = o .octet-at .result in
+    let h0 = look-chain xs (bits 7 f) (p .only .ensures) (rw (o .octet-at .ensures) (one-holds 0 7 part-bits xs (a .at))) in
     let h1 = look-on 1 xs _ h0 (omega arith) (flag-is-bit f 7 0 (omega arith) (omega arith) refl) (s1 .line .ensures) in
     let h2 = look-on 2 xs _ h1 (omega arith) (flag-is-bit f 7 1 (omega arith) (omega arith) refl) (s2 .line2 .ensures) in
     let h3 = look-on 3 xs _ h2 (omega arith) (flag-is-bit f 7 2 (omega arith) (omega arith) refl) (s3 .line3 .ensures) in
@@ -43,11 +32,11 @@ returns-2 c =
     let h5 = look-on 5 xs _ h4 (omega arith) (flag-is-bit f 7 4 (omega arith) (omega arith) refl) (s5 .line5 .ensures) in
     let h6 = look-on 6 xs _ h5 (omega arith) (flag-is-bit f 7 5 (omega arith) (omega arith) refl) (s6 .line6 .ensures) in
     let h7 = look-on 7 xs _ h6 (omega arith) (flag-is-bit f 7 6 (omega arith) (omega arith) refl) (c .line7 .ensures) in
-    went-there (omega (arith, i .if1 .left)) (q .before .present .ensures) (q .if2 .taken) (ends-same (h7 .ends) (sym (item-from 0 0 7 xs (a .a) tt)))
+    ends-same (h7 .ends) (sym (item-from 0 0 7 xs (a .at) tt))
 
 pub md5-spec : {M : Type 1} → statement M
 md5-spec =
     tie.close
-    (tie.spec (λ c. went-stop (c .if1 .taken)) (λ c κs. search needs) only-requires (λ c κs. search needs)
-    (λ c κs. search needs) (λ c κs. search needs) (λ c κs. search needs) (λ c κs. search needs) (λ c κs. search needs) (λ c κs. search needs) (λ c κs. search needs)
-    returns-2 (λ c. went-absent (omega (arith, c .before .before .if1 .left)) (c .before .present .ensures) (c .if2 .left)))
+    (tie.spec (λ c κs. search needs) only-requires
+    (λ c κs. search needs) (λ c κs. search needs) (λ c κs. search needs) (λ c κs. search needs) (λ c κs. search needs) (λ c κs. search needs) (λ c κs. c .before .before .before .before .before .before .before .before .before .pre .0)
+    returns)

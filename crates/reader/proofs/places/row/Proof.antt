@@ -12,8 +12,7 @@ returns-2 c = let a = c .before .before .before .args in row-021 (a .cat) (a .in
 
 returns-3 : tie.Need-returns-3
 returns-3 c =
-    let s = c .before .before .before in
-    let a = s .args in
+    let s = c .before .before .before in let a = s .args in
     row-007 (a .cat) (a .ind) (now (a .s)) (s .pre .1) (c .before .match .rest .0 .1) (c .before .match .rest .1) (c .row-007 .ensures)
 
 pub row-spec : {M : Type 1} → statement M
