@@ -17,5 +17,5 @@ pub mod Fields
 pub mod Closed
 pub mod Whole
 pub mod Surveys
-pub mod Takings
+pub mod Records
 pub mod Alone

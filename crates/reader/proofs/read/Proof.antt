@@ -2,7 +2,7 @@
 use native.Mathlib.Omega.{arith}
 use borrow.Author.Needs.{needs}
 use denote.Ref.{now}
-use Rattle.reader.specs.Laws.Takings.{two-there, read-refused, read-accepted}
+use Rattle.reader.specs.Laws.Records.{two-there, read-refused, read-accepted}
 use Rattle.reader.proofs.read.Statement.{statement}
 use Rattle.reader.proofs.read.Tie as tie
 

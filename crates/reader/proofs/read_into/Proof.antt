@@ -3,7 +3,7 @@ use native.Mathlib.Omega.{arith}
 use borrow.Author.Needs.{needs}
 use denote.Ref.{now}
 use Rattle.codec.specs.Laws.Codec.{octets-all}
-use Rattle.reader.specs.Laws.Takings.{Accepts, accepted-by, into-refused, into-none, room, row-asks, into-all}
+use Rattle.reader.specs.Laws.Records.{Accepts, accepted-by, into-refused, into-none, room, row-asks, into-all}
 use Rattle.reader.proofs.read_into.Statement.{statement}
 use Rattle.reader.proofs.read_into.Tie as tie
 

@@ -4,16 +4,16 @@ use mathlib.Core.List.{List, _∷_, _++_}
 use Prim.Native.Nat.{ℕ, zero, suc, _+_, _-_, _^_, _<_}
 use native.Mathlib.Omega.{arith}
 use borrow.Author.Tests.{ne-eqb}
-use lib.Dec.{T, eqb}
+use lib.Dec.{eqb}
 use lib.IntN.{ℤ}
 use lib.ListN.{length, drop}
 use Rattle.codec.specs.Codec.{Res, got, bad, mapRes, check, shift, opt}
 use Rattle.codec.specs.Line.{Held, line}
 use Rattle.codec.specs.Item.{slotsOf, nothing, beside, chain}
-use Rattle.codec.specs.Laws.Tests.{and-r, not-one}
+use Rattle.codec.specs.Laws.Tests.{not-one}
 use Rattle.codec.specs.Laws.Long.{LongBy, many, long-shift, long-line, Under, under-line, under-shift}
-use Rattle.lengths.specs.Lines.{lineAt, firstAt, countAt}
-use Rattle.shapes.specs.Shapes.{linesFrom, partsOk}
+use Rattle.lengths.specs.Lines.{lineAt, countAt}
+use Rattle.shapes.specs.Shapes.{linesFrom}
 use Rattle.reader.specs.Steps.{run, lineRun}
 use Rattle.reader.specs.Laws.Walk.{map-map, run-map, beside-bad, beside-got}
 use Rattle.reader.specs.Chains.{chainAt}
@@ -68,12 +68,6 @@ module _ (b : ℕ) (xs : List ℕ) (at : ℕ) where
       run-map (λ (a : (ℕ × ℕ) × List ℤ). (suc (a .0 .1), a .1)) ((beside (countAt b) (line (lineAt b)) (λ v. opt (nothing (slotsOf (lineAt (b + 1) ∷ linesFrom (b + 1 + 1) left))) (eqb (v .0) 1) (chain (lineAt (b + 1)) (linesFrom (b + 1 + 1) left)))) .read) xs at
       ∙ ap (mapRes (λ (a : (ℕ × ℕ) × List ℤ). (suc (a .0 .1), a .1))) (beside-got (countAt b) (line (lineAt b)) (λ v. opt (nothing (slotsOf (lineAt (b + 1) ∷ linesFrom (b + 1 + 1) left))) (eqb (v .0) 1) (chain (lineAt (b + 1)) (linesFrom (b + 1 + 1) left))) xs at h)
       ∙ map-map (λ (w : Held). ((x, w .0), v ++ w .1)) (λ (a : (ℕ × ℕ) × List ℤ). (suc (a .0 .1), a .1)) (run ((opt (nothing (slotsOf (lineAt (b + 1) ∷ linesFrom (b + 1 + 1) left))) (eqb x 1) (chain (lineAt (b + 1)) (linesFrom (b + 1 + 1) left))) .read) xs n)
-
--- the parts behind the first
-pub rest-ok : (b left : ℕ) → (left ≡ 0 → ⊥) → T (partsOk b left) → T (partsOk (b + 1) (left - 1))
-unfolding partsOk
-rest-ok b zero z t = absurd (z refl)
-rest-ok b (suc k) z t = let f : suc k - 1 ≡ k = omega arith in rw f (and-r (eqb (firstAt (b + 1)) (firstAt b + countAt b)) _ (and-r (eqb (lineAt b .fx) 1) _ t))
 
 -- FX of a part that is not 1 is 0
 pub line-zero : (b : ℕ) (xs : List ℕ) (at : ℕ) → lineAt b .fx ≡ 1 → {x n : ℕ} {v : List ℤ} → lineRun b xs at ≡ got (x, v) n → (x ≡ 1 → ⊥) → x ≡ 0

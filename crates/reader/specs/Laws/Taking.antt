@@ -114,7 +114,7 @@ line-taken xs at b base l {r} er h {n} en {m} em = record {
 
 -- ---- what was taken of a reading that has c parts, up to place a
 
-pub record Went (l : List ℤ) (slot : ℕ) (x : Res Held) (c a : ℕ) (m : List ℤ) : Type 0 where
+pub record TakenTo (l : List ℤ) (slot : ℕ) (x : Res Held) (c a : ℕ) (m : List ℤ) : Type 0 where
   pub item : ItemTaken l slot x c m
   pub place : (v : Held) (n : ℕ) → x ≡ got v n → n ≡ a
 
@@ -122,7 +122,7 @@ made : {l : List ℤ} {slot : ℕ} {x : Res Held} {c : ℕ} {m : List ℤ} → l
 made p q r = record { taken = record { long = p; kept = q }; parts = r }
 
 -- nothing is there, and the slots are zeros as they were
-absent : (l : List ℤ) (slot k : ℕ) {x : Res Held} {a : ℕ} → x ≡ got (0, replicate k (pos 0)) a → {m : List ℤ} → length m ≡ length l → (Ready l slot → m ≡ l) → Went l slot x 0 a m
+absent : (l : List ℤ) (slot k : ℕ) {x : Res Held} {a : ℕ} → x ≡ got (0, replicate k (pos 0)) a → {m : List ℤ} → length m ≡ length l → (Ready l slot → m ≡ l) → TakenTo l slot x 0 a m
 absent l slot k {x} {a} e {m} long same = record {
   item = made long (λ ready v n ex. same ready ∙ sym (sets-zeros k l slot (ready .zeros)) ∙ ap (λ (w : Held). sets l slot (w .1)) (is v n ex)) (λ v n ex. ap (λ (w : Held). w .0) (is v n ex));
   place = λ v n ex. cc;
@@ -222,24 +222,24 @@ after-part b left xs a f {r} er {v} {n} ex {X} h = go (lineRun b xs a) refl
 
 module _ {l : List ℤ} {slot b : ℕ} {t : Bool} {xs : List ℕ} {a r : ℕ} {m : List ℤ} (o : OptTaken l slot b t xs a r m) where
   -- the last part that a chain can have
-  pub chain-last : Went l slot (restRun b 0 t xs a) (pick t 1 0) r m
+  pub chain-last : TakenTo l slot (restRun b 0 t xs a) (pick t 1 0) r m
   unfolding chain linesFrom lineOpt lineRun
   chain-last = go t o
     where
-      go : (t : Bool) → OptTaken l slot b t xs a r m → Went l slot (restRun b 0 t xs a) (pick t 1 0) r m
+      go : (t : Bool) → OptTaken l slot b t xs a r m → TakenTo l slot (restRun b 0 t xs a) (pick t 1 0) r m
       go true o = record {
         item = made (o .taken .long) (λ ready v n ex. o .taken .kept ready (0, v .1) n (alone-back a ((line (lineAt b)) .read (drop a xs)) ex .0)) (λ v n ex. sym (alone-back a ((line (lineAt b)) .read (drop a xs)) ex .1));
         place = λ v n ex. opt-place b true xs a (alone-back a ((line (lineAt b)) .read (drop a xs)) ex .0) ∙ sym (o .at-next);
       }
-      go false o = subst (λ i. Went l slot (restRun b 0 false xs a) 0 i m) (sym (o .at-next)) (absent l slot (slotsOf (linesFrom b 1)) refl (o .taken .long) (unmoved o))
+      go false o = subst (λ i. TakenTo l slot (restRun b 0 false xs a) 0 i m) (sym (o .at-next)) (absent l slot (slotsOf (linesFrom b 1)) refl (o .taken .long) (unmoved o))
 
   -- the part before the others: r is where they begin
   module _ (left : ℕ) (f : lineAt b .fx ≡ 1) {next : ℕ} (en : next ≡ slot + countAt b) where
-    pub chain-on : (t ≡ false → goesOn xs a ≡ false) → {c e : ℕ} {q : List ℤ} → Went m next (restRun (b + 1) left (goesOn xs r) xs r) c e q → Went l slot (restRun b (suc left) t xs a) (pick t 1 0 + c) e q
+    pub chain-on : (t ≡ false → goesOn xs a ≡ false) → {c e : ℕ} {q : List ℤ} → TakenTo m next (restRun (b + 1) left (goesOn xs r) xs r) c e q → TakenTo l slot (restRun b (suc left) t xs a) (pick t 1 0 + c) e q
     unfolding lineOpt lineRun
     chain-on g {c} {e} {q} w = go t g o
       where
-        go : (t : Bool) → (t ≡ false → goesOn xs a ≡ false) → OptTaken l slot b t xs a r m → Went l slot (restRun b (suc left) t xs a) (pick t 1 0 + c) e q
+        go : (t : Bool) → (t ≡ false → goesOn xs a ≡ false) → OptTaken l slot b t xs a r m → TakenTo l slot (restRun b (suc left) t xs a) (pick t 1 0 + c) e q
         go true g o = record {
           item = made (w .item .taken .long ∙ o .taken .long)
               (λ ready v n ex. after-part b left xs a f (o .at-next) ex λ u x eu ew ev.
@@ -253,7 +253,7 @@ module _ {l : List ℤ} {slot b : ℕ} {t : Bool} {xs : List ℕ} {a r : ℕ} {m
             let ew : restRun (b + 1) left (goesOn xs r) xs r ≡ got (0, replicate k (pos 0)) (a + 0)
             = ap₂ (λ s j. restRun (b + 1) left s xs j) (ap (goesOn xs) er ∙ ap (goesOn xs) (omega arith) ∙ g refl) er ∙ ap (got (0, replicate k (pos 0))) (omega arith) in
             let ec : 0 + c ≡ 0 = omega (arith, w .item .parts (0, replicate k (pos 0)) (a + 0) ew) in
-            subst (λ i. Went l slot (restRun b (suc left) false xs a) i e q) (sym ec) (subst (λ i. Went l slot (restRun b (suc left) false xs a) 0 i q) (w .place _ _ ew)
+            subst (λ i. TakenTo l slot (restRun b (suc left) false xs a) i e q) (sym ec) (subst (λ i. TakenTo l slot (restRun b (suc left) false xs a) 0 i q) (w .place _ _ ew)
             (absent l slot (slotsOf (linesFrom b (suc (suc left)))) refl (w .item .taken .long ∙ o .taken .long) λ ready.
             let em : m ≡ l = unmoved o ready in
             let rm : Ready m next = record { len = ap length em ∙ ready .len; zeros = λ j h. ap (λ x. getD x j (pos 0)) em ∙ ready .zeros j (omega (arith, en, h)) } in
@@ -261,7 +261,7 @@ module _ {l : List ℤ} {slot b : ℕ} {t : Bool} {xs : List ℕ} {a r : ℕ} {m
 
 -- the first part is always there
 pub first-on : (b : ℕ) (xs : List ℕ) (at : ℕ) {l : List ℤ} (h : length l ≡ SLOTS) {slot r : ℕ} {m : List ℤ} → LineTaken l slot (lineRun b xs at) (at + lineAt b .octets) r m
-    → (left : ℕ) → lineAt b .fx ≡ 1 → {next : ℕ} → next ≡ slot + countAt b → {c e : ℕ} {q : List ℤ} → Went m next (restRun (b + 1) left (goesOn xs r) xs r) c e q → Went l slot (chainAt b xs at (suc left)) (1 + c) e q
+    → (left : ℕ) → lineAt b .fx ≡ 1 → {next : ℕ} → next ≡ slot + countAt b → {c e : ℕ} {q : List ℤ} → TakenTo m next (restRun (b + 1) left (goesOn xs r) xs r) c e q → TakenTo l slot (chainAt b xs at (suc left)) (1 + c) e q
 first-on b xs at {l} h {slot} k left f en w = chain-on (opt-there l h slot b xs at {t = true} refl k) left f en (λ e. let z : _≡_ {A = ℕ} 0 1 = cc in absurd (omega arith)) w
 
 -- so many parts that the octet of their count holds them
@@ -340,7 +340,7 @@ sub-on {ts} {xs} {l} {base} {x} {c} {a} {m} b f s {r} {q} o = record {
 }
 
 -- before the first subfield: the chain was taken, and its numbers are ts
-begun : (b left : ℕ) (ts xs : List ℕ) (at : ℕ) {l : List ℤ} {base c a : ℕ} {m : List ℤ} → Went l base (chainAt b xs at left) c a m → ((v : Held) (n : ℕ) → chainAt b xs at left ≡ got v n → v .1 ≡ map pos ts)
+begun : (b left : ℕ) (ts xs : List ℕ) (at : ℕ) {l : List ℤ} {base c a : ℕ} {m : List ℤ} → TakenTo l base (chainAt b xs at left) c a m → ((v : Held) (n : ℕ) → chainAt b xs at left ≡ got v n → v .1 ≡ map pos ts)
     → SoFar ts xs l base (chainAt b xs at left) (slotsOf (linesFrom b (suc left))) c a m
 unfolding linesFrom
 begun b left ts xs at w h = record {
@@ -403,8 +403,8 @@ module _ {K b left n : ℕ} (d : Compound K b left n) (xs : List ℕ) (at : ℕ)
   pub item-ends : {l : List ℤ} {base : ℕ} {m : List ℤ} {c r : ℕ} → ItemTaken l base (moreFrom (b + 1 + left) n xs (chainAt b xs at left)) c m → r ≡ c → ItemTaken l base (optRun K there xs at) r m
   item-ends {l} {base} {m} {c} {r} s e = subst (λ j. ItemTaken l base (optRun K there xs at) j m) (sym e) (subst (λ x. ItemTaken l base x c m) item-is s)
 
-  pub at-base : {l : List ℤ} {base c a : ℕ} {m : List ℤ} → Went l (base + firstAt b) (chainAt b xs at left) c a m → Went l base (chainAt b xs at left) c a m
-  at-base {l} {base} {c} {a} {m} w = let z : base + firstAt b ≡ base = omega (arith, d .start) in subst (λ i. Went l i (chainAt b xs at left) c a m) z w
+  pub at-base : {l : List ℤ} {base c a : ℕ} {m : List ℤ} → TakenTo l (base + firstAt b) (chainAt b xs at left) c a m → TakenTo l base (chainAt b xs at left) c a m
+  at-base {l} {base} {c} {a} {m} w = let z : base + firstAt b ≡ base = omega (arith, d .start) in subst (λ i. TakenTo l i (chainAt b xs at left) c a m) z w
 
   module _ (t : T (isGot (optRun K there xs at))) where
     ahead : Stops xs (at + lineAt b .octets)

@@ -2,7 +2,7 @@
 use borrow.Author.Needs.{needs}
 use denote.Ref.{now}
 use Rattle.codec.specs.Field.{flags}
-use Rattle.reader.specs.Laws.Takings.{fits-of, taken-of, place-048, place-021, place-007}
+use Rattle.reader.specs.Laws.Records.{fits-of, taken-of, place-048, place-021, place-007}
 use Rattle.reader.proofs.rows.row.Statement.{statement}
 use Rattle.reader.proofs.rows.row.Tie as tie
 

@@ -11,7 +11,7 @@ use Rattle.shapes.specs.Shapes.{itemAt}
 use Rattle.spots.specs.Spots.{spotsFrom, spots, spotAt}
 use Rattle.reader.specs.Rows.{placeRun}
 use Rattle.reader.specs.Taking.{optRun, lineOpt}
-use Rattle.reader.specs.Laws.Takings.{Row, none-taken, is-there, one-taken, all-taken}
+use Rattle.reader.specs.Laws.Records.{Row, none-taken, is-there, one-taken, all-taken}
 use Rattle.reader.proofs.rows.row_048.Statement.{statement}
 use Rattle.reader.proofs.rows.row_048.Tie as tie
 
