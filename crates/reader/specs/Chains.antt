@@ -1,4 +1,4 @@
--- Chains by place.
+-- A chain from a place on.
 use mathlib.Core.List.{List}
 use Prim.Native.Nat.{ℕ, _+_}
 use Rattle.codec.specs.Codec.{Res}

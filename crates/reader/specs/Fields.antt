@@ -1,4 +1,4 @@
--- The whole field: what the code of the reader answers is what 01 defines.
+-- The whole field, check by check in 01's order, with the place behind each item.
 use mathlib.Core.List.{List, [], _∷_}
 use Prim.Native.Nat.{ℕ, suc}
 use lib.Dec.{ltb, eqb}

@@ -2,7 +2,7 @@
 pub mod Numbers
 pub mod Limits
 pub mod Lines
-pub mod Walk
+pub mod Steps
 pub mod Chains
 pub mod Items
 pub mod Seen

@@ -1,7 +1,7 @@
 -- What the code of the reader computes, level by level, and that it is what the codecs read.
 pub mod Numbers
 pub mod Steps
-pub mod Walk
+pub mod Slots
 pub mod Chains
 pub mod Items
 pub mod Rows

@@ -1,4 +1,4 @@
--- A row of items by their places alone, and the whole field so.
+-- A row of items by their places alone, and the survey of a field by it.
 use mathlib.Core.Path.{_≡_}
 use mathlib.Core.Bool.{Bool}
 use mathlib.Core.List.{List, [], _∷_, _++_}

@@ -16,7 +16,7 @@ use Rattle.layout.specs.Record.{allParts, allNumbers}
 use Rattle.lengths.specs.Lines.{lineAt, countAt}
 use Rattle.shapes.specs.Shapes.{itemAt}
 use Rattle.reader.specs.Steps.{run}
-use Rattle.reader.specs.Walk.{Ready}
+use Rattle.reader.specs.Slots.{Ready}
 use Rattle.reader.specs.Rows.{Found, rowFrom}
 use Rattle.reader.specs.Seen.{goesOn}
 

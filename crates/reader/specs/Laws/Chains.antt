@@ -15,7 +15,7 @@ use Rattle.codec.specs.Laws.Long.{LongBy, many, long-shift, long-line, Under, u
 use Rattle.lengths.specs.Lines.{lineAt, countAt}
 use Rattle.shapes.specs.Shapes.{linesFrom}
 use Rattle.reader.specs.Steps.{run, lineRun}
-use Rattle.reader.specs.Laws.Walk.{map-map, run-map, beside-bad, beside-got}
+use Rattle.reader.specs.Laws.Steps.{map-map, run-map, beside-bad, beside-got}
 use Rattle.reader.specs.Chains.{chainAt}
 
 -- ---- what the chain's codec reads after its first part

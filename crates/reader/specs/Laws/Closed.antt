@@ -1,4 +1,4 @@
--- The survey of a whole field: its row, LEN and the indicator before it, and nothing left behind.
+-- The step of a row as the survey of a field: nothing may be left behind its items.
 use mathlib.Core.Path.{_≡_, refl, sym, ap, ap₂, _∙_, subst}
 use mathlib.Core.Bool.{Bool, true, false}
 use mathlib.Core.List.{List, _∷_, _++_}

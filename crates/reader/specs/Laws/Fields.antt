@@ -1,4 +1,4 @@
--- The whole field: what the code of the reader answers is what 01 defines.
+-- The whole field: what is found check by check is what 01 defines.
 use mathlib.Core.Path.{_≡_, refl, sym, ap, ap₂, _∙_}
 use mathlib.Core.Bool.{Bool, true, false}
 use mathlib.Core.List.{List, [], _∷_}
@@ -23,7 +23,7 @@ use Rattle.spots.specs.Spots.{spotOf, itemOn, itemsFrom}
 use Rattle.spots.specs.Laws.Spots.{spots-right}
 use Rattle.reader.specs.Steps.{run}
 use Rattle.scope.specs.Reading.{fieldOf}
-use Rattle.reader.specs.Laws.Walk.{run-map, run-then, thenAt}
+use Rattle.reader.specs.Laws.Steps.{run-map, run-then, thenAt}
 use Rattle.reader.specs.Rows.{placeRun, Found, found, goOn, rowFrom}
 use Rattle.reader.specs.Fields.{ends, itemsIn, walkOf}
 

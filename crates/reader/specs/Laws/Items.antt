@@ -16,7 +16,7 @@ use Rattle.lengths.specs.Laws.Lines.{past-lines}
 use Rattle.shapes.specs.Shapes.{NO_LINE, linesFrom, flagsUnder, itemOf}
 use Rattle.shapes.specs.Laws.Shapes.{past-item}
 use Rattle.reader.specs.Steps.{run, lineRun}
-use Rattle.reader.specs.Laws.Walk.{run-map, beside-bad, beside-got}
+use Rattle.reader.specs.Laws.Steps.{run-map, beside-bad, beside-got}
 use Rattle.reader.specs.Items.{extend, more, itemRun}
 
 unfoldable pub moreAll : List Line → List ℕ → Res Held → Res Held

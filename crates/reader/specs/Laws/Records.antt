@@ -28,11 +28,11 @@ use Rattle.scope.specs.Reading.{fieldOf, noRecord, shown, readOf, intoAnswer, k
 use Rattle.scope.specs.Survey.{surveyed, surveyOf}
 use Rattle.spots.specs.Spots.{spotOf, itemOn}
 use Rattle.spots.specs.Laws.Spots.{spots-right}
-use Rattle.reader.specs.Walk.{Ready}
+use Rattle.reader.specs.Slots.{Ready}
 use Rattle.reader.specs.Rows.{placeRun, Found, rowFrom}
 use Rattle.reader.specs.Fields.{walkOf}
 use Rattle.reader.specs.Taking.{isGot, ItemTaken, RowFits, RowTaken}
-use Rattle.reader.specs.Laws.Walk.{ready-after}
+use Rattle.reader.specs.Laws.Steps.{ready-after}
 use Rattle.reader.specs.Laws.Rows.{place-many, all-numbers-one, all-parts-one}
 use Rattle.reader.specs.Laws.Whole.{ready-zeros, Sized, RowSized, row-sized, Walked, walked, found-sized, field-found, field-fell}
 use Rattle.reader.specs.Laws.Surveys.{places-are}

@@ -30,8 +30,8 @@ use Rattle.reader.specs.Steps.{run, lineRun}
 use Rattle.reader.specs.Numbers.{numsAt, numOf}
 use Rattle.reader.specs.Taking.{isGot, optRun, lineOpt, LineTaken, OptTaken, Stops, ItemTaken}
 use Rattle.reader.specs.Seen.{goesOn}
-use Rattle.reader.specs.Walk.{Ready}
-use Rattle.reader.specs.Laws.Walk.{sets-zeros, ready-after}
+use Rattle.reader.specs.Slots.{Ready}
+use Rattle.reader.specs.Laws.Steps.{sets-zeros, ready-after}
 use Rattle.reader.specs.Laws.Lines.{numbers-are}
 use Rattle.reader.specs.Items.{extend, more}
 use Rattle.reader.specs.Chains.{chainAt}

@@ -1,4 +1,4 @@
--- The arrays that the walk leaves are those of 01's record.
+-- A field that was accepted: its row, how many numbers and places each item of it has, and what it holds.
 use mathlib.Core.Path.{_≡_, refl, sym, ap, ap₂, _∙_, subst}
 use mathlib.Core.Bool.{Bool, true, false}
 use mathlib.Core.List.{List, [], _∷_}
@@ -23,7 +23,7 @@ use Rattle.layout.specs.Record.{allNumbers}
 use Rattle.scope.specs.Reading.{fieldOf}
 use Rattle.spots.specs.Spots.{spotOf, itemOn, itemsFrom}
 use Rattle.spots.specs.Laws.Rows.{first-drop}
-use Rattle.reader.specs.Walk.{Ready}
+use Rattle.reader.specs.Slots.{Ready}
 use Rattle.reader.specs.Rows.{placeRun, Found, found, goOn, rowFrom}
 use Rattle.reader.specs.Laws.Rows.{place-many}
 use Rattle.reader.specs.Fields.{ends, itemsIn, walkOf}

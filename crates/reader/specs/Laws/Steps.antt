@@ -11,7 +11,7 @@ use Rattle.codec.specs.Codec.{Res, got, bad, shift, mapRes, andThen, Codec, pai
 use Rattle.codec.specs.Line.{Held}
 use Rattle.codec.specs.Item.{beside}
 use Rattle.reader.specs.Steps.{run}
-use Rattle.reader.specs.Walk.{Ready}
+use Rattle.reader.specs.Slots.{Ready}
 
 -- ---- readings by place
 
