@@ -6,7 +6,7 @@ ghost use lib.Dec.{T, ltb};
 ghost use lib.ListN.{length, take, drop};
 ghost use Rattle.codec.specs.Signed.{toSigned};
 ghost use Rattle.codec.specs.Radix.{join, eights};
-ghost use Rattle.codec.specs.Line.{toNum, limit, inLimits};
+ghost use Rattle.codec.specs.Line.{toNum, inLimits};
 ghost use Rattle.lengths.specs.Lines.{kindOf, piecesFrom, narrow};
 ghost use Rattle.reader.specs.Numbers.{inside, numsAt, pieceFits};
 ghost use Rattle.reader.specs.Seen.{Ends};
@@ -75,20 +75,7 @@ fn between(z: i32, lo: i32, hi: i32) -> bool
     false
 }
 
-// Whether a number is within the limits of its kind.
-fn fits(z: i32, kind: u64) -> bool
-    ensures { λ r. ⌜ r ≡ limit (kindOf kind) z ⌝ }
-{
-    if kind < 3 {
-        return true;
-    }
-    if kind == 3 {
-        return between(z, -4194304, 4194304);
-    }
-    between(z, -40, 8191)
-}
-
-// Whether the number of one piece is within the limits of its kind; bits that hold no number have none.
+// Whether the number of one piece is within the limits of its kind; it is made only where the kind has some.
 fn piece_fits(n: u64, next: u64, w: u64, kind: u64) -> bool
     requires { ⌜ (w < 32) × (next < 64) × ((kind ≡ 0 → ⊥) → w ≤ 24) ⌝ }
     ensures { λ r. ⌜ r ≡ pieceFits kind w n next ⌝ }
@@ -96,7 +83,11 @@ fn piece_fits(n: u64, next: u64, w: u64, kind: u64) -> bool
     if kind < 3 {
         return true;
     }
-    fits(number(low(n >> next, w), w, kind), kind)
+    let z = number(low(n >> next, w), w, kind);
+    if kind == 3 {
+        return between(z, -4194304, 4194304);
+    }
+    between(z, -40, 8191)
 }
 
 // Whether the numbers of the pieces that lie below bit shift of n are within their limits.

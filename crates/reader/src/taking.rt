@@ -44,8 +44,8 @@ fn further(s: &[u8], a: usize, b: usize, base: usize, numbers: &mut [i32]) -> us
     a
 }
 
-// The octet from a place to another, 0 where they are one: the flags of a second part.
-fn between(s: &[u8], from: usize, to: usize) -> u8
+// The flags of a second part, which stands from a place to another; none where they are one.
+fn second_flags(s: &[u8], from: usize, to: usize) -> u8
     requires { ⌜ to ≤ length (now s) ⌝ }
     ensures { λ r. ⌜ r ≡ pick (ltb from to) (getD (now (s .entry)) from 0) 0 ⌝ }
 {
@@ -100,7 +100,7 @@ pub fn m5n(s: &[u8], at: usize, there: bool, base: usize, numbers: &mut [i32]) -
         let em1 = subfield(s, ga, o, 4, 14, base, &mut *numbers);
         let tos = subfield(s, em1, o, 5, 15, base, &mut *numbers);
         let xp = subfield(s, tos, o, 6, 16, base, &mut *numbers);
-        let q = between(s, part, second);
+        let q = second_flags(s, part, second);
         subfield(s, xp, q, 0, 17, base, &mut *numbers);
         return leaves::octet(leaves::less(second, at));
     }

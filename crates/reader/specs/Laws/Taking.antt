@@ -12,7 +12,7 @@ use lib.Seq.{sets, length-sets}
 use Rattle.codec.specs.Pick.{pick}
 use Rattle.codec.specs.Radix.{total, cut, join, eights}
 use Rattle.codec.specs.Codec.{Res, got, bad, mapRes, check, shift, opt}
-use Rattle.codec.specs.Line.{Held, Piece, spare, toNum, widths, line, fills}
+use Rattle.codec.specs.Line.{Held, Piece, toNum, widths, line, fills}
 use Rattle.codec.specs.Item.{slotsOf, slots, nothing, chain, isOne, flagged, item}
 use Rattle.codec.specs.Field.{flags}
 use Rattle.codec.specs.Laws.Tests.{and-l, and-r}
@@ -37,6 +37,7 @@ use Rattle.reader.specs.Items.{extend, more}
 use Rattle.reader.specs.Chains.{chainAt}
 use Rattle.reader.specs.Laws.Chains.{line-many, part-bad, part-then}
 use Rattle.reader.specs.Laws.Items.{Begins, begins-more, begins-itself, chain-many, more-many, moreFrom, item-from}
+use Rattle.reader.specs.Laws.Onward.{part-fx}
 use Rattle.reader.specs.Laws.Parts.{line-held, fx-octet, bits, Bits, line-bits}
 
 -- ---- pieces
@@ -357,11 +358,6 @@ bits-are j o = ap (λ ds. map pos (take j ds)) (ap₂ _∷_ (omega arith) (ap₂
 
 -- ---- a chain that was found is all there, and its last part does not go on
 
-parts-fx : (b left : ℕ) → T (partsOk b left) → lineAt b .fx ≡ 1
-unfolding partsOk
-parts-fx b zero t = eqb→eq (lineAt b .fx) 1 t
-parts-fx b (suc left) t = eqb→eq (lineAt b .fx) 1 (and-l (eqb (lineAt b .fx) 1) _ t)
-
 part-some : (b : ℕ) → lineAt b .fx ≡ 1 → 1 ≤ lineAt b .octets
 unfolding fills
 part-some b f = omega (arith, f, total-eights (lineAt b .octets), eqb→eq (total (eights (lineAt b .octets))) (total (widths (lineAt b .pieces)) + lineAt b .fx) (line-filled b))
@@ -369,13 +365,13 @@ part-some b f = omega (arith, f, total-eights (lineAt b .octets), eqb→eq (tota
 chain-over : (b left : ℕ) (xs : List ℕ) (a : ℕ) → T (partsOk b left) → {v : Held} {n : ℕ} → chainAt b xs a left ≡ got v n → (a + lineAt b .octets ≤ n) × (n ≤ length xs) × (goesOn xs n ≡ false)
 unfolding chain linesFrom lineRun partsOk
 chain-over b zero xs a k {v} ex =
-    let f = parts-fx b 0 k in
+    let f = part-fx b 0 k in
     let e = alone-back a ((line (lineAt b)) .read (drop a xs)) ex .0 in
     let p = line-held b xs a e in
     (omega (arith, p .next), omega (arith, p .next, p .there, part-some b f, length-drop a xs), ap (λ i. eqb i 1) (sym (fx-octet b xs a f {v = v .1} e)))
 chain-over b (suc left) xs a k {n = n} ex =
     let r : ℕ = a + lineAt b .octets in
-    after-part b left xs a (parts-fx b (suc left) k) {r = r} refl ex λ u w eu ew ev.
+    after-part b left xs a (part-fx b (suc left) k) {r = r} refl ex λ u w eu ew ev.
     go (goesOn xs r) refl u w eu ew λ e. chain-over (b + 1) left xs r (and-r (eqb (firstAt (b + 1)) (firstAt b + countAt b)) _ (and-r (eqb (lineAt b .fx) 1) _ k)) e
   where
     go : (t : Bool) → goesOn xs (a + lineAt b .octets) ≡ t → (u w : Held) → lineRun b xs a ≡ got u (a + lineAt b .octets) → restRun (b + 1) left t xs (a + lineAt b .octets) ≡ got w n
@@ -385,7 +381,7 @@ chain-over b (suc left) xs a k {n = n} ex =
     go false et u w eu ew ih =
         let en : n ≡ a + lineAt b .octets + 0 = cc in
         let p = line-held b xs a eu in
-        (omega arith, omega (arith, p .there, part-some b (parts-fx b (suc left) k), length-drop a xs), ap (goesOn xs) (omega arith) ∙ et)
+        (omega arith, omega (arith, p .there, part-some b (part-fx b (suc left) k), length-drop a xs), ap (goesOn xs) (omega arith) ∙ et)
 
 -- ---- an item: the chain of left further parts behind line b, and n subfields
 
@@ -410,7 +406,7 @@ module _ {K b left n : ℕ} (d : Compound K b left n) (xs : List ℕ) (at : ℕ)
     ahead : Stops xs (at + lineAt b .octets)
     ahead = got-of (chainAt b xs at left) (moreFrom-bad (b + 1 + left) n xs (chainAt b xs at left) (subst (λ x. T (isGot x)) (sym item-is) t)) λ v e ex.
         let o = chain-over b left xs at (d .parts) ex in
-        record { some = omega (arith, part-some b (parts-fx b left (d .parts))); end = e; ahead = o .0; within = o .1; over = o .2 }
+        record { some = omega (arith, part-some b (part-fx b left (d .parts))); end = e; ahead = o .0; within = o .1; over = o .2 }
 
     pub part-there : at + lineAt b .octets ≤ length xs
     part-there = omega (arith, ahead .ahead, ahead .within)
@@ -467,7 +463,7 @@ module _ {K b n : ℕ} (d : Twice K b n) (xs : List ℕ) (at : ℕ) {there : Boo
     (k : LineTaken l (base + firstAt b) (lineRun b xs at) (at + lineAt b .octets) r m) {e : ℕ} {q : List ℤ} (o : OptTaken m (base + firstAt (b + 1)) (b + 1) (goesOn xs r) xs r e q) where
   both-lead : (v : Held) (n : ℕ) → chainAt b xs at 1 ≡ got v n → v .1 ≡ map pos (twoFlags xs at (secondOf xs r))
   unfolding cut chain linesFrom lineRun
-  both-lead v n ex = after-part b 0 xs at (parts-fx b 1 (d .item .parts)) (k .at-next) ex λ u w eu ew ev.
+  both-lead v n ex = after-part b 0 xs at (part-fx b 1 (d .item .parts)) (k .at-next) ex λ u w eu ew ev.
       ap (λ (z : Held). z .1) ev ∙ ap₂ _++_ (line-bits b 7 (d .first-bits) xs at eu ∙ bits-are 7 (getD xs at 0)) (by (goesOn xs r) w ew)
     where
       by : (t : Bool) (w : Held) → restRun (b + 1) 0 t xs r ≡ got w n → w .1 ≡ map pos (take 1 (flags (pick t (getD xs r 0) 0)))
@@ -475,7 +471,7 @@ module _ {K b n : ℕ} (d : Twice K b n) (xs : List ℕ) (at : ℕ) {there : Boo
       by false w ew = let e : w ≡ (0, replicate (slotsOf (linesFrom (b + 1) 1)) (pos 0)) = cc in ap (λ (z : Held). z .1) e ∙ ap (λ j. replicate j (pos 0)) (d .one)
 
   pub two-begun : SoFar (twoFlags xs at (secondOf xs r)) xs l base (chainAt b xs at 1) (slotsOf (linesFrom b 2)) (1 + pick (goesOn xs r) 1 0) e q
-  two-begun = begun b 1 (twoFlags xs at (secondOf xs r)) xs at (at-base (d .item) xs at et (first-on b xs at h k 0 (parts-fx b 1 (d .item .parts)) (omega (arith, d .next)) (chain-last o))) both-lead
+  two-begun = begun b 1 (twoFlags xs at (secondOf xs r)) xs at (at-base (d .item) xs at et (first-on b xs at h k 0 (part-fx b 1 (d .item .parts)) (omega (arith, d .next)) (chain-last o))) both-lead
 
   pub two-room : T (isGot (optRun K there xs at)) → Stops xs e → T (flagsUnder (length (map pos (twoFlags xs at (secondOf xs r)))) (linesFrom (b + 1 + 1) n)) → e + spanFrom (twoFlags xs at (secondOf xs r)) (b + 1 + 1) n ≤ length xs
   two-room t s f = item-room (d .item) xs at et t (two-begun .reached) (omega (arith, s .ahead, s .within)) f

@@ -19,12 +19,12 @@ use Rattle.reader.proofs.taking.m5n.Lts as lts
 use Rattle.reader.proofs.numbers.take.Reads as take-reads
 use Rattle.reader.proofs.taking.further.Reads as further-reads
 use Rattle.reader.proofs.taking.subfield.Reads as subfield-reads
-use Rattle.reader.proofs.taking.between.Reads as between-reads
+use Rattle.reader.proofs.taking.second_flags.Reads as second-flags-reads
 use Rattle.leaves.proofs.less.Reads as less-reads
 use Rattle.leaves.proofs.octet.Reads as octet-reads
 
 abbrev calls : lts.Claims
-calls = (take-reads.Asked, take-reads.Learnt, further-reads.Asked, further-reads.Learnt, subfield-reads.Asked, subfield-reads.Learnt, between-reads.Asked, between-reads.Learnt, less-reads.Asked, less-reads.Learnt, octet-reads.Asked, octet-reads.Learnt)
+calls = (take-reads.Asked, take-reads.Learnt, further-reads.Asked, further-reads.Learnt, subfield-reads.Asked, subfield-reads.Learnt, second-flags-reads.Asked, second-flags-reads.Learnt, less-reads.Asked, less-reads.Learnt, octet-reads.Asked, octet-reads.Learnt)
 
 is : Twice 1 8 8
 unfolding partsOk nums toNum widths cut total slotsOf flagsUnder itemAt itemOf linesFrom count placedAt placed placedIn placedFrom linesOf items cat048 cat021 cat007
@@ -57,7 +57,7 @@ subfield-requires-8 c κs =
     let s7 = c .before .before .before in let s6 = s7 .before .before .before in let s5 = s6 .before .before .before in let s4 = s5 .before .before .before in
     let f = s4 .before .before .before .before .before .before .before .before .before .before .before .before .before in let p = f .before .before .before in let xs = now (p .before .before .before .before .args .s) in
     let g = later s4 in let n5 = s5 .subfield5 .ensures .at-next in let n6 = s6 .subfield6 .ensures .at-next in let n7 = s7 .subfield7 .ensures .at-next in
-    let q = second-is xs (p .take .result) {k = 1} refl (f .further .ensures .0 .at-next) (c .before .between .ensures) in
+    let q = second-is xs (p .take .result) {k = 1} refl (f .further .ensures .0 .at-next) (c .before .second-flags .ensures) in
     (omega arith, omega (arith, g), subst (λ x. s7 .subfield7 .result + pick (eqb (getD (flags x) 0 0) 1) (lineAt 17 .octets) 0 ≤ length xs) (sym q) (omega (arith, g, n5, n6, n7)))
 
 returns : tie.Need-returns
@@ -69,7 +69,7 @@ returns c =
     let h0 = two-begun is xs (s .args .at) (i .if1 .taken) (s .pre .0) (s .args .base) (p .take .ensures) (f .further .ensures .0) in let h1 = sub-on 10 (omega arith) h0 (s1 .subfield .ensures) in
     let h2 = sub-on 11 (omega arith) h1 (s2 .subfield2 .ensures) in let h3 = sub-on 12 (omega arith) h2 (s3 .subfield3 .ensures) in let h4 = sub-on 13 (omega arith) h3 (s4 .subfield4 .ensures) in
     let h5 = sub-on 14 (omega arith) h4 (s5 .subfield5 .ensures) in let h6 = sub-on 15 (omega arith) h5 (s6 .subfield6 .ensures) in let h7 = sub-on 16 (omega arith) h6 (s7 .subfield7 .ensures) in
-    let q = second-is xs (p .take .result) {k = 1} refl (f .further .ensures .0 .at-next) (b .between .ensures) in
+    let q = second-is xs (p .take .result) {k = 1} refl (f .further .ensures .0 .at-next) (b .second-flags .ensures) in
     let h8 = sub-on 17 (omega arith) h7 (opt-as (ap (λ x. eqb (getD (flags x) 0 0) 1) q) (s8 .subfield8 .ensures)) in
     item-ends (is .item) xs (s .args .at) (i .if1 .taken) (h8 .item)
     (omega (arith, c .octet .ensures, c .before .less .ensures, f .further .ensures .0 .at-next, p .take .ensures .at-next, few (goesOn xs (p .take .result))))

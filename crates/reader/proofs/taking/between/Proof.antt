@@ -1,8 +1,0 @@
--- `reader::taking::between` meets its contract. Assumes nothing.
-use borrow.Author.Needs.{needs}
-use borrow.Author.Tests.{lt-ltb, le-ltb}
-use Rattle.reader.proofs.taking.between.Statement.{statement}
-use Rattle.reader.proofs.taking.between.Tie as tie
-
-pub between-spec : {M : Type 1} → statement M
-between-spec = tie.close (tie.spec (λ c. search needs) (λ c. simp (lt-ltb _ _ (c .before .if1 .taken))) (λ c. simp (le-ltb _ _ (c .if1 .left))))
