@@ -42,7 +42,7 @@ PROMISES = [
     ("sheet", "`sheet`, `listed`"),
     ("words", "`word_at`, `number`, `signed`, `small`, `room`, `whole`"),
     ("guess", "reading the sheet back as a definition, that its answer is the right one and the only one, and texts computed from it"),
-    ("demands", "the three demands, what is asked of the visitors' copy, of two members, of the pressure, of the exact angle and of reading the sheet back, and that the program which `scope` and `guess` define meets them"),
+    ("demands", "the three demands, what 02 asks of each request that has landed, and that the program which `scope` and `guess` define meets them"),
     ("walk", "`past`, `line`, `next`, `skip`, `word`, `value`, `bounded`, `ranged`"),
     ("compare", "`opens`, `first_wrong`"),
     ("taken", "`record`"),
@@ -95,7 +95,7 @@ def changed(old, new):
     while end < min(len(a), len(b)) - start and a[-1 - end] == b[-1 - end]:
         end += 1
     first = max(0, start - 1)
-    cut = lambda words: " ".join(words[first : len(words) - end + (1 if end else 0)])[:60]
+    cut = lambda words: " ".join(words[first : len(words) - end + (1 if end else 0)])[:44]
     return f"{code(cut(a))} → {code(cut(b))}"
 
 
@@ -137,7 +137,7 @@ ITEM = re.compile(r" *(pub )?(?:extern \"C\" )?(?:fn|const) (\w+)")
 
 
 def items_of(crate):
-    """The functions and constants of a crate's source: file, name, whether it is a public function of the root, first
+    """The functions and constants of a crate's source: module, name, whether it is a public function of the root, first
     line and text."""
     found = []
     for file in sorted((ROOT / "crates" / crate / "src").rglob("*.rt")):
@@ -146,7 +146,7 @@ def items_of(crate):
         heads = [(at, head) for at, head in heads if head] + [(len(lines), None)]
         for (at, head), (end, _) in zip(heads, heads[1:]):
             public = bool(head[1]) and "fn " in head[0] and file.name == "lib.rt"
-            found.append((file.name, head[2], public, at, "\n".join(lines[at:end])))
+            found.append((file.stem, head[2], public, at, "\n".join(lines[at:end])))
     return found
 
 
@@ -154,10 +154,10 @@ def wrong_programs(crate, edits):
     """Each public function of a crate, and the edits of the items that it comes to by calls and constants, itself
     among them."""
     items = items_of(crate)
-    modules = {Path(file).stem for file, *_ in items}
+    modules = {module for module, *_ in items}
     named = {}
-    for _, name, _, _, text in items:
-        named.setdefault(name, set()).update(names_in(text, modules))
+    for module, name, _, _, text in items:
+        named.setdefault((module, name), set()).update(names_in(module, text, modules))
     touched = {}
     for edit in edits:
         file = re.search(r"^file: src/(.*)$", edit.read_text(), re.M)
@@ -165,17 +165,19 @@ def wrong_programs(crate, edits):
             source = (ROOT / "crates" / crate / "src" / file[1]).read_text()
             assert source.count(old) == 1, (edit, "an old text stands there once")
             line = source.partition(old)[0].count("\n")
-            inside = [name for item, name, _, at, _ in items if item == file[1] and at <= line]
+            inside = [(module, name) for module, name, _, at, _ in items if module == Path(file[1]).stem and at <= line]
             touched.setdefault(inside[-1], []).append(edit.stem)
-    return {name: list(dict.fromkeys(edit for item in sorted(reached(name, named)) for edit in touched.get(item, [])))
-            for _, name, public, *_ in items if public}
+    return {name: list(dict.fromkeys(edit for item in sorted(reached((module, name), named)) for edit in touched.get(item, [])))
+            for module, name, public, *_ in items if public}
 
 
-def names_in(text, modules):
-    """The crate's own functions that are called in an item, and the constants that stand in it."""
+def names_in(module, text, modules):
+    """The crate's own functions that are called in an item of a module, and the constants that stand in it, of
+    whatever module."""
     code = re.sub(r"//.*", "", text)
     calls = re.findall(r"(?:(\w+)::)?(\w+)\(", code)
-    return {name for place, name in calls if not place or place in modules} | set(re.findall(r"\b[A-Z][A-Z_0-9]+\b", code))
+    constants = re.findall(r"\b[A-Z][A-Z_0-9]+\b", code)
+    return {(place or module, name) for place, name in calls} | {(place, name) for place in modules for name in constants}
 
 
 def reached(name, named):
