@@ -33,7 +33,8 @@ unfoldable pub readOf : ℕ → List ℕ → Reading
 unfolding shown
 readOf cat s = shown cat s (fieldOf cat s)
 
--- ---- reading into lent slots: the field's own refusal, then 11 where the numbers have not SLOTS places; a refusal writes nothing
+-- ---- reading into lent slots: the field's own refusal, then 11 where the numbers have not SLOTS places (01, 'Numbers of refusal': "output slice shorter
+-- than the result", here also one that is longer; "On every refusal by any operation the output is as before")
 
 unfoldable pub intoAnswer : ℕ → Answer → Answer
 intoAnswer room (Refused n p) = Refused n p
