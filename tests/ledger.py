@@ -95,7 +95,7 @@ def changed(old, new):
     while end < min(len(a), len(b)) - start and a[-1 - end] == b[-1 - end]:
         end += 1
     first = max(0, start - 1)
-    cut = lambda words: " ".join(words[first : len(words) - end + (1 if end else 0)])[:44]
+    cut = lambda words: " ".join(words[first : len(words) - end + (1 if end else 0)])[:36]
     return f"{code(cut(a))} → {code(cut(b))}"
 
 
