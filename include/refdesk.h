@@ -59,6 +59,9 @@ enum ref_number {
     REF_TEXT = 18       /* text that is no sheet of a field */
 };
 
+/* The bit of an item, counted from 1, in a list; the list of several items is the sum of their bits. */
+#define REF_LISTED(item) ((uint8_t)(0x80 >> ((item) - 1)))
+
 /* Which field an answer of ref_choose is about. */
 enum ref_which { REF_NEITHER = 0, REF_BASE = 1, REF_CORRECTION = 2 };
 
@@ -76,7 +79,21 @@ enum ref_which { REF_NEITHER = 0, REF_BASE = 1, REF_CORRECTION = 2 };
 #define REF_RECORD_NUMBERS 10
 #define REF_RECORD_PLACES 87
 
-/* ---- slots: made by `python3 tests/slots.py write`, not by hand */
+/* ---- items, slots and words: made by `python3 tests/ways.py write`, not by hand */
+
+/* The number of each item of a category. REF_LISTED gives its bit in a list. */
+enum ref_item_048 {
+    REF_ITEM_048_MD5 = 1, REF_ITEM_048_M5N = 2, REF_ITEM_048_M4E = 3, REF_ITEM_048_RPC = 4, REF_ITEM_048_ERR = 5
+};
+
+enum ref_item_021 {
+    REF_ITEM_021_BPS = 1, REF_ITEM_021_SELH = 2, REF_ITEM_021_NAV = 3, REF_ITEM_021_GAO = 4, REF_ITEM_021_SGV = 5,
+    REF_ITEM_021_STA = 6, REF_ITEM_021_TNH = 7, REF_ITEM_021_MES = 8
+};
+
+enum ref_item_007 {
+    REF_ITEM_007_TA = 1, REF_ITEM_007_M5N = 2, REF_ITEM_007_M4E = 3, REF_ITEM_007_RPC = 4, REF_ITEM_007_ERR = 5
+};
 
 /*
  * The slot of each number in a record of a category. Its index in the record's array is REF_RECORD_NUMBERS + slot. A name
@@ -169,7 +186,32 @@ enum ref_slot_007 {
     REF_007_ERR = 45
 };
 
-/* ---- end of the slots */
+/* What an answer's REF_NUMBER says, in words: "accepted" for 0, and "no such refusal" for a number that is none. */
+static inline const char *ref_words(unsigned number)
+{
+    switch (number) {
+    case 0: return "accepted";
+    case 1: return "category is not 7, 21 or 48";
+    case 2: return "field empty, or shorter than LEN";
+    case 3: return "LEN is 0 or 1";
+    case 4: return "spare bit set in the items indicator";
+    case 5: return "chain part or subfield not wholly before LEN";
+    case 6: return "spare bit set in a chain part or subfield";
+    case 7: return "FX set in the last part that the edition defines";
+    case 8: return "latitude or GA out of range";
+    case 9: return "octets left between the last item and LEN";
+    case 10: return "record that no field reads to";
+    case 11: return "output shorter than the result";
+    case 12: return "item number is not one of the category's";
+    case 13: return "item is not on the slot's list";
+    case 14: return "new octets are not exactly one such item";
+    case 15: return "item absent";
+    case 18: return "text that is no sheet of a field";
+    default: return "no such refusal";
+    }
+}
+
+/* ---- end of what is made */
 
 /*
  * Reads a field of a category into a record, whose array must have 87 places. Octets behind LEN are not looked at.

@@ -14,6 +14,7 @@ import ledger
 import rebuilds
 import slots
 import spares
+import ways
 from edits import BASE, WORKED
 from fields import full_field, good_field
 from papers import INDICATORS, MEASURES, PAPERS, SECTIONS
@@ -397,7 +398,8 @@ for name, cat, field, *_ in requests():  # what is read is written again, as it 
     if name == b"read" and got[0] == "ok":
         assert write(got[2], got[1]) == ("ok", field[:got[1]]), field
         checks += 1
-assert slots.differing() == [], "python3 tests/slots.py write"
+assert not slots.differs(), "python3 tests/slots.py write"
+assert ways.differing() == [], "python3 tests/ways.py write"
 assert not spares.differs(), "python3 tests/spares.py write"
 assert spares.asked() == ["if ind & layout::spare_of(cat) == 0 {", "if n & format.spare == 0 {"], "one comparison with a mask, and no other condition"
 checks += sum(same_spares(cat, spares.PAGE.read_text(encoding="utf-8")) for cat in PAPERS)

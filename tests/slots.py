@@ -1,33 +1,32 @@
 #!/usr/bin/env python3
-"""The slots of the record as the papers' data in crates/papers/specs gives them: docs/NUMBERS.md, and the enums of include/refdesk.h.
+"""The slots of the record as the papers' data in crates/papers/specs gives them: docs/NUMBERS.md. tests/ways.py hands the same to other languages.
 
-    python3 tests/slots.py          says which of the two is not as the data has it
-    python3 tests/slots.py write    makes both
+    python3 tests/slots.py          says whether the page is not as the data has it
+    python3 tests/slots.py write    makes it
 """
 import re
 import sys
+import textwrap
 from pathlib import Path
 from typing import NamedTuple
 
 ROOT = Path(__file__).resolve().parent.parent
 SPECS = ROOT / "crates/papers/specs"
 PAGE = ROOT / "docs/NUMBERS.md"
-HEADER = ROOT / "include/refdesk.h"
-WIDTH = 120  # of the header
+WIDTH = 100  # of the page
 
-# category: edition, document, and what the table can't say
-CATEGORIES = {
-    48: ("1.9", "000", ""),
-    21: ("1.5", "003", """
-- `BPS`: the pressure is 800 hPa plus the number times 0.1 hPa. 0 stands for all below 800 hPa too,
-  and 4,095 for all above 1209.5 hPa: on the sheet `BPS.sense` is `atmost` for 0, `atleast` for 4,095
-  and `equal` between.
-- `SelH.SelH`: document 003 prints no unit, and 01 derives no degrees from it.
-- `GAO.Lateral`: bit 8 is the direction, 0 left and 1 right of the centre line. So the number as a
-  whole is not a count of 2 m.
-"""),
-    7: ("1.7", "004", ""),
+# category: edition and document
+CATEGORIES = {48: ("1.9", "000"), 21: ("1.5", "003"), 7: ("1.7", "004")}
+
+# what the table can't say, by category and key
+REMARKS = {
+    (21, "BPS"): "the pressure is 800 hPa plus the number times 0.1 hPa. 0 stands for all below 800 hPa too, and 4,095 for all above 1209.5 hPa: on the "
+                 "sheet `BPS.sense` is `atmost` for 0, `atleast` for 4,095 and `equal` between.",
+    (21, "SelH.SelH"): "document 003 prints no unit, and 01 derives no degrees from it.",
+    (21, "GAO.Lateral"): "bit 8 is the direction, 0 left and 1 right of the centre line. So the number as a whole is not a count of 2 m.",
 }
+ENDS = {(21, "BPS")}  # their lowest and highest number stand for all that lies beyond, too
+NO_COUNTS = {(21, "SelH.SelH"), (21, "GAO.Lateral")}  # a printed LSB, from which no measure of the whole number is to be derived
 
 
 # ---- the notation of crates/papers/specs/Notation.antt and crates/codec/specs/Printed.antt
@@ -299,84 +298,35 @@ def table_row(row):
     return "|" + "|".join(f" {cell} " if cell else " " for cell in cells) + "|"
 
 
+def remarks(cat):
+    found = [f"- `{key}`: {text}" for (c, key), text in REMARKS.items() if c == cat]
+    return "".join(f"\n{textwrap.fill(remark, WIDTH, subsequent_indent='  ')}" for remark in found) + ("\n" if found else "")
+
+
 def page():
     out = [INTRODUCTION]
-    for cat, (edition, document, remarks) in CATEGORIES.items():
+    for cat, (edition, document) in CATEGORIES.items():
         found = rows(paper(cat))
         out.append(f"## Category {cat:03}, edition {edition} (document {document})\n")
-        out.append(f"{len(found)} slots, 0 to {len(found) - 1}.\n{remarks}")
+        out.append(f"{len(found)} slots, 0 to {len(found) - 1}.\n{remarks(cat)}")
         out += ["| slot | key | place | sign | limits | LSB | unit |", "|---|---|---|---|---|---|---|"]
         out += [table_row(row) for row in found] + [""]
     return "\n".join(out)
 
 
-# ---- the enums of include/refdesk.h
-
-BEGIN = "/* ---- slots: made by `python3 tests/slots.py write`, not by hand */\n"
-END = "/* ---- end of the slots */\n"
-COMMENT = """
-/*
- * The slot of each number in a record of a category. Its index in the record's array is REF_RECORD_NUMBERS + slot. A name
- * with HAS is that of a presence flag, 1 if the subfield is there. docs/NUMBERS.md has bits, sign, limits, LSB and unit.
- */
-"""
-
-
-def enum_name(cat, row):
-    name = f"REF_{cat:03}_{'' if row.key else 'HAS_'}{re.sub('[.#]', '_', row.name).upper()}"
-    if not name.isidentifier():
-        raise ValueError(f"no name in C: {name}")
-    return name
-
-
-def enum(cat, found):
-    """A chain part or subfield begins on a line of its own."""
-    out, before = [], None
-    for row in found:
-        word = f"{enum_name(cat, row)} = {row.slot}" + ("," if row is not found[-1] else "")
-        if row.line is before and len(out[-1]) + 1 + len(word) <= WIDTH:
-            out[-1] += f" {word}"
-        else:
-            out.append(f"    {word}")
-        before = row.line
-    return "\n".join([f"enum ref_slot_{cat:03} {{", *out, "};\n"])
-
-
-def enums():
-    found = {cat: rows(paper(cat)) for cat in CATEGORIES}
-    names = [enum_name(cat, row) for cat in found for row in found[cat]]
-    twice = {name for name in names if names.count(name) > 1}
-    if twice:
-        raise ValueError(f"two slots of one name: {twice}")
-    return COMMENT + "\n".join(enum(cat, found[cat]) for cat in found) + "\n"
-
-
-def header(text):
-    before, begin, rest = text.partition(BEGIN)
-    _, end, behind = rest.partition(END)
-    if not begin or not end:
-        raise ValueError(f"{HEADER} is without the two lines between which the slots stand")
-    return before + BEGIN + enums() + END + behind
-
-
-def made():
-    return {PAGE: page(), HEADER: header(HEADER.read_text(encoding="utf-8"))}
-
-
-def differing():
-    return [path for path, text in made().items() if not path.exists() or path.read_text(encoding="utf-8") != text]
+def differs():
+    return not PAGE.exists() or PAGE.read_text(encoding="utf-8") != page()
 
 
 def main(arguments):
     if arguments not in ([], ["write"]):
         sys.exit(__doc__)
     if arguments:
-        for path, text in made().items():
-            path.write_text(text, encoding="utf-8")
-    wrong = [str(path.relative_to(ROOT)) for path in differing()]
-    for path in wrong:
-        print(f"{path} is not as crates/papers/specs has it: python3 tests/slots.py write")
-    return 1 if wrong else 0
+        PAGE.write_text(page(), encoding="utf-8")
+    if differs():
+        print("docs/NUMBERS.md is not as crates/papers/specs has it: python3 tests/slots.py write")
+        return 1
+    return 0
 
 
 if __name__ == "__main__":

@@ -133,7 +133,7 @@ def table_row(document, line):
 def page():
     out = [INTRODUCTION]
     for cat, found in lines().items():
-        edition, document, _ = CATEGORIES[cat]
+        edition, document = CATEGORIES[cat]
         out.append(f"## Category {cat:03}, edition {edition} (document {document})\n")
         out += ["| section | item | part or subfield | octets | mask | spare bits |", "|---|---|---|---|---|---|"]
         out += [table_row(document, line) for line in found] + [""]
