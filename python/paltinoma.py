@@ -26,6 +26,7 @@ import threading
 from collections.abc import Callable, Iterable, Iterator, Mapping
 from dataclasses import dataclass, replace
 from fractions import Fraction
+from functools import cached_property
 from pathlib import Path
 from types import TracebackType
 from typing import Any, NamedTuple, TypeVar, Union
@@ -100,16 +101,18 @@ class Item:
         """Its octet in a list or indicator."""
         return 0x80 >> self.number - 1
 
-    @property
+    @cached_property
     def parts(self) -> tuple[Line, ...]:
         """The parts of its chain; none in an item of fixed length."""
         return tuple(line for line in self.lines if line.chain)
 
+    @cached_property
+    def _flags(self) -> dict[str, tuple[int, Run]]:
+        return {run.key: (k, run) for k, part in enumerate(self.parts, 1) for run in part.runs if run.flag}
+
     def flag(self, line: Line) -> tuple[int, Run] | None:
         """The part, counted from 1, and the bit in it that say whether a subfield is there; other lines have none."""
-        key = f"{self.name}.{line.name}"
-        found = [(k, run) for k, part in enumerate(self.parts, 1) for run in part.runs if run.flag and run.key == key]
-        return found[0] if found and not line.chain else None
+        return self._flags.get(f"{self.name}.{line.name}")
 
 
 @dataclass(frozen=True)
@@ -349,18 +352,18 @@ class Record(Mapping[str, Number]):
         """The number in its slot."""
         return 0 if run.slot is None else self.numbers[run.slot]
 
+    @cached_property
+    def _found(self) -> dict[str, Number]:
+        return {run.key: Number(self.of(run), run) for _, line in self.lines() for run in line.runs if run.key and not run.flag}
+
     def __iter__(self) -> Iterator[str]:
-        return (run.key for _, line in self.lines() for run in line.runs if run.key and not run.flag)
+        return iter(self._found)
 
     def __len__(self) -> int:
-        return sum(1 for _ in self)
+        return len(self._found)
 
     def __getitem__(self, key: str) -> Number:
-        for _, line in self.lines():
-            for run in line.runs:
-                if run.key == key and not run.flag:
-                    return Number(self.of(run), run)
-        raise KeyError(key)
+        return self._found[key]
 
     def __repr__(self) -> str:
         return f"Record({self.cat}, {', '.join(self.present) or 'no items'}: {({key: int(n) for key, n in self.items()})})"
@@ -391,12 +394,12 @@ def _room(room: int) -> int:
     return min(_within(room, 0, 1 << 63, "a room"), 300)  # of more the protocol has no word, and every result has room in it
 
 
-def _items(cat: int, names: Iterable[str]) -> set[Item]:
+def _items(cat: int, names: Iterable[str]) -> list[Item]:
     """The items of these names; none in a category without a paper, which is refused before an item or a list is looked at."""
     if isinstance(names, str):
         raise UnknownName(f"a list is made of names, as slot({names!r}), and is none itself")
     known = CATEGORIES.get(cat)
-    return {known.item(name) for name in names} if known else set()
+    return [known.item(name) for name in set(names)] if known else []
 
 
 def _number(cat: int, name: str) -> int:
@@ -447,7 +450,7 @@ def found(program: str | os.PathLike[str] | None = None) -> str:
     `refdesk` on the PATH."""
     named = program or os.environ.get("REFDESK")
     if named:
-        return shutil.which(named) or os.fspath(named)
+        return shutil.which(os.fspath(named)) or os.fspath(named)
     built = [str(HERE.parent / folder / "refdesk") for folder in ("target/bin", "bin")]
     path = next(filter(os.path.isfile, built), None) or shutil.which("refdesk")
     if path is None:

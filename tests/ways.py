@@ -27,8 +27,12 @@ def refusals():
 # ---- python/paltinoma.json
 
 def titles():
-    """What each item is called, by the octet of its bit and its name, which two categories may share."""
-    return {(listed, name): title for _, name, listed, title in table(PAGE, "item | name | list | what it is")}
+    """What each item is called, by its category and name: the page's tables have the categories in their order, each item in its turn."""
+    named = [(cat, entry.name) for cat in CATEGORIES for entry in paper(cat)]
+    found = list(table(PAGE, "item | name | list | what it is"))
+    if [name for _, name in named] != [name for _, name, _, _ in found]:
+        raise ValueError("docs/PROTOCOL.md has other items than the papers")
+    return dict(zip(named, (title for *_, title in found)))
 
 
 def sections(cat):
@@ -74,13 +78,12 @@ def category_data(cat):
 
 
 def item_data(cat, number, entry, found):
-    title = titles()[f"{0x80 >> number - 1:02X}", entry.name]
     structures = zip(lines(entry), entry.parts + entry.subs)
     made = [
         {"name": line.label, "octets": line.octets, "chain": k < len(entry.parts), "runs": [run_data(cat, run, found) for run in structure.runs]}
         for k, (line, structure) in enumerate(structures)
     ]
-    return {"number": number, "name": entry.name, "title": title, "section": sections(cat)[entry.name], "lines": made}
+    return {"number": number, "name": entry.name, "title": titles()[cat, entry.name], "section": sections(cat)[entry.name], "lines": made}
 
 
 def laid(value, inner=""):
