@@ -4,8 +4,9 @@
  *
  * The functions are proved: whatever the octets and numbers, each answers and leaves exactly what document 01 (01-scope.md)
  * says, ref_copy and ref_rebuild what 02 (02-change-requests.md, Asks 5 and 6) says, and reads and writes only what it is
- * lent. They keep no state and allocate nothing, so threads may call them at once. Link target/staticlib/libexports.a,
- * which `rt staticlib exports` writes, for x86-64 Linux. tests/c has an example.
+ * lent. They keep no state and allocate nothing, so threads may call them at once. Link librefdesk.a, which `make` builds for
+ * x86-64 Linux as target/lib/librefdesk.a: `pkg-config --cflags --libs refdesk` says how where it is installed. tests/c has an
+ * example.
  *
  * Memory is lent for the call and not kept. Each pointer is followed by its count of elements; it is not NULL, also where
  * the count is 0. What is lent as const is only read, and may be lent twice. What is lent for writing (`record` of
@@ -186,7 +187,10 @@ enum ref_slot_007 {
     REF_007_ERR = 45
 };
 
-/* What an answer's REF_NUMBER says, in words: "accepted" for 0, and "no such refusal" for a number that is none. */
+/*
+ * What an answer's REF_NUMBER says, in words: "accepted" for 0, and "no such refusal" for a number that is none. It is the one
+ * function that stands here and not in the archive, and nothing is proved of it: the words are those of docs/PROTOCOL.md.
+ */
 static inline const char *ref_words(unsigned number)
 {
     switch (number) {

@@ -3,7 +3,8 @@
 their commands against the programs.
 
 A block of sh or python is run from the repository's folder, and has to print the block of text behind it. Of the blocks that send lines to refdesk,
-and of the rows of a table 'line | answer', the answers have to be those of tests/refdesk.py, too.
+and of the rows of a table 'line | answer', the answers have to be those of tests/refdesk.py, too. What stands beside a request in Python has to send
+that request.
 """
 import re
 import subprocess
@@ -11,15 +12,34 @@ import sys
 from pathlib import Path
 
 from papers import PAPERS
-from refdesk import FORMS, answer, answers
+from refdesk import FORMS, answer, answers, values_of
 from started import started
 
 ROOT = Path(__file__).resolve().parent.parent
 PAGE = (ROOT / "docs" / "PROTOCOL.md").read_text()
 README = (ROOT / "README.md").read_text()
 HEADER = (ROOT / "include" / "refdesk.h").read_text()
+REQUESTS = "request | answer | in Python"
 SHELLS = {"sh": ["sh", "-euc"], "python": [sys.executable, "-c"]}
 WORDS = {"PARTS": 8, "NUMBERS": 77}  # names that stand for several words
+FIELD, OTHER, TEXT = bytes.fromhex("062806010000"), bytes.fromhex("0508020000"), b"cat=48\nlen=2\nitems=\nend=ok\n"
+SENT = {  # what the words of a request are where the Python beside it is tried
+    "CAT": [48], "FIELD": [FIELD], "BASE": [FIELD], "CORRECTION": [OTHER], "ITEM": [5], "LIST": [0x18], "WITHHELD": [0x80], "NEW": [b"\2\0\0"], "TEXT": [TEXT],
+    "ROOM": [60], "ITEMS": [8], "PARTS": [0] * 8, "NUMBERS": [0] * 76 + [131072],
+}
+TRIED = f"""
+import sys
+sys.path.insert(0, "python")
+from paltinoma import Desk, slot
+class Heard(Desk):
+    def _answer(self, line):
+        print(line)
+        return super()._answer(line)
+cat, field, base, correction, new, text, room = 48, {FIELD}, {FIELD}, {OTHER}, {SENT["NEW"][0]}, {TEXT}, 60
+with Desk() as desk:
+    record = desk.read(cat, correction)
+with Heard() as desk:
+    """
 
 
 def examples(page):
@@ -65,9 +85,20 @@ def commands():
     return count
 
 
+def in_python():
+    """What is written beside each request sends it, with the words that the request has."""
+    count = 0
+    for form, _, written in table(PAGE, REQUESTS):
+        ended = subprocess.run([sys.executable, "-c", TRIED + written], cwd=ROOT, stdout=subprocess.PIPE, timeout=60, check=True)
+        name, *words = ended.stdout.rstrip(b"\n").split(b" ")
+        wanted = [value for word in form.split()[1:] for value in SENT[word]]
+        count += same(written, (name.decode(), values_of(FORMS[name][0], words)), (form.split()[0], wanted))
+    return count
+
+
 def tables():
     """Requests, items and refusals of the page, against the forms, the papers and the header."""
-    told = {row[0].split()[0]: sum(WORDS.get(word, 1) for word in row[0].split()[1:]) for row in table(PAGE, "request | answer")}
+    told = {row[0].split()[0]: sum(WORDS.get(word, 1) for word in row[0].split()[1:]) for row in table(PAGE, REQUESTS)}
     count = same("requests", told, {name.decode(): len(kinds) for name, (kinds, _) in FORMS.items()})
     items = [row[:3] for row in table(PAGE, "item | name | list | what it is")]
     count += same("items", items, [[str(i + 1), item[0], f"{0x80 >> i:02X}"] for paper in PAPERS.values() for i, item in enumerate(paper)])
@@ -76,7 +107,7 @@ def tables():
 
 
 def main():
-    print(f"protocol: {tables() + sessions() + commands()} passed, 0 failed")
+    print(f"protocol: {tables() + in_python() + sessions() + commands()} passed, 0 failed")
 
 
 if __name__ == "__main__":

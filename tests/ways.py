@@ -127,7 +127,10 @@ SLOTS = """
  */
 """
 WORDS = """
-/* What an answer's REF_NUMBER says, in words: "accepted" for 0, and "no such refusal" for a number that is none. */
+/*
+ * What an answer's REF_NUMBER says, in words: "accepted" for 0, and "no such refusal" for a number that is none. It is the one
+ * function that stands here and not in the archive, and nothing is proved of it: the words are those of docs/PROTOCOL.md.
+ */
 static inline const char *ref_words(unsigned number)
 {
     switch (number) {

@@ -1,4 +1,4 @@
-/* Reads a field of category 048, replaces its item ERR by a slot that was booked for that item, and prints both fields. */
+/* Reads a field of category 048, replaces its item ERR by a slot that was booked for RPC and ERR, and prints both fields. */
 #include "refdesk.h"
 
 #include <stdio.h>
@@ -17,7 +17,7 @@ static int print_record(const uint8_t *field, size_t n)
     int32_t record[REF_RECORD_PLACES];
     uint64_t word = ref_read(48, field, n, record, REF_RECORD_PLACES);
     if (REF_NUMBER(word) != REF_ACCEPTED) {
-        printf("refused by %u at %zu\n", REF_NUMBER(word), REF_PLACE(word));
+        printf("refused by %u at %zu: %s\n", REF_NUMBER(word), REF_PLACE(word), ref_words(REF_NUMBER(word)));
         return 1;
     }
     printf("  items %02X", (unsigned)record[REF_RECORD_ITEMS]);
@@ -32,7 +32,7 @@ int main(void)
 {
     const uint8_t field[] = {0x06, 0x28, 0x06, 0x01, 0x00, 0x00};
     const uint8_t err[] = {0x02, 0x00, 0x00};
-    const uint8_t item = 5, list = 0x08;
+    const uint8_t item = REF_ITEM_048_ERR, list = REF_LISTED(REF_ITEM_048_RPC) | REF_LISTED(REF_ITEM_048_ERR);
     uint8_t out[REF_LONGEST];
 
     print_field("field", field, sizeof field);
@@ -43,10 +43,11 @@ int main(void)
     print_field("item 5", field + REF_START(view), REF_LENGTH(view));
 
     uint64_t word = ref_replace(48, field, sizeof field, list, item, err, sizeof err, out, sizeof out);
-    if (REF_NUMBER(word) != REF_ACCEPTED) {
-        printf("refused by %u at %zu\n", REF_NUMBER(word), REF_PLACE(word));
-        return 1;
-    }
     print_field("edited", out, REF_LENGTH(word));
-    return print_record(out, REF_LENGTH(word));
+    if (print_record(out, REF_LENGTH(word)) != 0)
+        return 1;
+
+    word = ref_remove(48, field, sizeof field, list, REF_ITEM_048_M4E, out, sizeof out);
+    printf("M4E removed: %s\n", ref_words(REF_NUMBER(word)));
+    return 0;
 }

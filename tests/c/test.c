@@ -587,8 +587,24 @@ static void test_long_text(void)
     check(memcmp(text, before, sizeof text) == 0, "text of ref_rebuild", "a long text", sizeof text);
 }
 
+/* ---- names for C, by hand from 01: the numbers of items and refusals, and the octets of lists */
+
+static void test_names(void)
+{
+    check(REF_ITEM_048_MD5 == 1 && REF_ITEM_048_ERR == 5 && REF_ITEM_021_BPS == 1 && REF_ITEM_021_MES == 8, "items", "048 and 021", 8);
+    check(REF_ITEM_007_TA == 1 && REF_ITEM_007_M5N == 2 && REF_ITEM_007_ERR == 5, "items", "007", 5);
+    check(REF_LISTED(REF_ITEM_048_MD5) == 0x80 && REF_LISTED(REF_ITEM_021_MES) == 0x01, "list of one item", "MD5 and MES", 1);
+    check((REF_LISTED(REF_ITEM_048_M4E) | REF_LISTED(REF_ITEM_048_RPC)) == 0x30, "list of two items", "M4E and RPC", 2);
+    check(strcmp(ref_words(REF_ACCEPTED), "accepted") == 0, "words", "accepted", REF_ACCEPTED);
+    check(strcmp(ref_words(REF_SPARE), "spare bit set in a chain part or subfield") == 0, "words", "a spare bit", REF_SPARE);
+    check(strcmp(ref_words(REF_LIST), "item is not on the slot's list") == 0, "words", "off the list", REF_LIST);
+    check(strcmp(ref_words(REF_TEXT), "text that is no sheet of a field") == 0, "words", "no sheet", REF_TEXT);
+    check(strcmp(ref_words(16), "no such refusal") == 0 && strcmp(ref_words(65535), "no such refusal") == 0, "words", "none", 16);
+}
+
 int main(void)
 {
+    test_names();
     test_read();
     test_write();
     test_view();
