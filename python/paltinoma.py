@@ -11,8 +11,8 @@ refusal is the exception `Refused`.
     256 NM
     062806020000
 
-It needs the standard library alone, Python 3.10 or later, and paltinoma.json beside it, which has the layouts: made from
-the papers' data, as docs/NUMBERS.md is. docs/PROTOCOL.md has the requests that the methods send.
+It needs the standard library alone, Python 3.10 or later, and paltinoma.json beside it, which has the layouts: made
+from the papers' data, as docs/NUMBERS.md is. docs/PROTOCOL.md has the requests that the methods send.
 """
 from __future__ import annotations
 
@@ -31,13 +31,31 @@ from pathlib import Path
 from types import TracebackType
 from typing import Any, NamedTuple, TypeVar, Union
 
-__all__ = ["CATEGORIES", "Category", "Choice", "Desk", "DeskFailed", "DeskMissing", "Field", "Item", "Line", "LONGEST", "Number",
-           "Octets", "Record", "REFUSALS", "Refused", "Run", "slot", "UnknownName", "View"]
+__all__ = [
+    "CATEGORIES",
+    "Category",
+    "Choice",
+    "Desk",
+    "DeskFailed",
+    "DeskMissing",
+    "Field",
+    "Item",
+    "Line",
+    "LONGEST",
+    "Number",
+    "Octets",
+    "Record",
+    "REFUSALS",
+    "Refused",
+    "Run",
+    "known",
+    "slot",
+    "UnknownName",
+    "View",
+]
 
 HERE = Path(__file__).resolve().parent
-SLOTS = 77  # places of a record for numbers
-LONGEST_TEXT = 32768  # octets of a text that may be a sheet
-LONGEST = 52  # octets of the longest field of any category: as room it is enough for every result
+LONGEST_TEXT = 32768  # octets of a text that may be a sheet (02, Ask 6)
 WHICH = ("", "base", "correction")  # the field that an answer of `choose` is about
 PATIENCE = 5  # seconds that a closed desk has to end
 
@@ -46,6 +64,7 @@ T = TypeVar("T")
 
 
 # ---- the layouts, from paltinoma.json
+
 
 @dataclass(frozen=True)
 class Run:
@@ -127,12 +146,19 @@ class Category:
     spare: tuple[Run, ...]  # of the items indicator
     items: tuple[Item, ...]
 
+    @property
+    def slots(self) -> int:
+        """How many numbers its records have, presence flags among them."""
+        return sum(run.slot is not None for item in self.items for line in item.lines for run in line.runs)
+
     def item(self, name: str) -> Item:
         """The item of that name."""
         for item in self.items:
             if item.name == name:
                 return item
-        raise UnknownName(f"category {self.number:03} has no item {name!r}; it has {', '.join(i.name for i in self.items)}")
+        raise UnknownName(
+            f"category {self.number:03} has no item {name!r}; it has {', '.join(i.name for i in self.items)}"
+        )
 
     def number_at(self, key: str) -> tuple[Item, Line, Run]:
         """Where the number with that key of the sheet stands."""
@@ -171,13 +197,23 @@ def _category(raw: dict[str, Any]) -> Category:
 _DATA = json.loads((HERE / "paltinoma.json").read_text(encoding="utf-8"))
 CATEGORIES: dict[int, Category] = {raw["number"]: _category(raw) for raw in _DATA["categories"]}
 REFUSALS: dict[int, Refusal] = {raw["number"]: Refusal(raw["words"], raw["advice"]) for raw in _DATA["refusals"]}
+LONGEST = max(category.longest for category in CATEGORIES.values())  # octets; as room it is enough for every result
+SLOTS = max(category.slots for category in CATEGORIES.values())  # places of a record for numbers
+
+
+def known(cat: int) -> Category:
+    """The category of that number."""
+    if cat not in CATEGORIES:
+        raise UnknownName(f"no paper has category {cat}; there are {', '.join(map(str, CATEGORIES))}")
+    return CATEGORIES[cat]
 
 
 # ---- what can go wrong
 
+
 class Refused(Exception):
-    """The desk refused: `number` and `words` say why, `place` at which octet, counted from LEN (of a sheet: at which line,
-    from 1). `which` is 'base' or 'correction' where `choose` refused one of them, else ''."""
+    """The desk refused: `number` and `words` say why, `place` at which octet, counted from LEN (of a sheet: at which
+    line, from 1). `which` is 'base' or 'correction' where `choose` refused one of them, else ''."""
 
     def __init__(self, number: int, place: int, which: str = "") -> None:
         super().__init__(number, place, which)
@@ -204,7 +240,8 @@ class Refused(Exception):
 
 
 class DeskFailed(Exception):
-    """The program ended, or what it answered is no whole answer. What was asked has no answer: open a desk and ask again."""
+    """The program ended, or what it answered is no whole answer. What was asked has no answer: open a desk and ask
+    again."""
 
 
 class DeskMissing(DeskFailed):
@@ -216,6 +253,7 @@ class UnknownName(ValueError):
 
 
 # ---- what a request is made of and what it gives
+
 
 def slot(*names: str) -> frozenset[str]:
     """What a slot was booked for: items by the names of their papers. As a list of withheld items it serves, too."""
@@ -273,7 +311,7 @@ class Number:
     @property
     def sense(self) -> str:
         """'atmost' or 'atleast' where it stands for all beyond its value, too; else 'equal'."""
-        ends = {0: "atmost", 2 ** self.run.width - 1: "atleast"} if self.run.ends else {}
+        ends = {0: "atmost", 2**self.run.width - 1: "atleast"} if self.run.ends else {}
         return ends.get(self.number, "equal")
 
     def __int__(self) -> int:
@@ -289,22 +327,28 @@ class Number:
 
 def _decimal(value: Fraction) -> str:
     """Exact with up to eight places; else the nearest with six, halves away from zero, and 'about' in front."""
-    places = next((k for k in range(9) if (value * 10 ** k).denominator == 1), None)
+    places = next((k for k in range(9) if (value * 10**k).denominator == 1), None)
     shown = 6 if places is None else places
-    digits = str(int(abs(value) * 10 ** shown + Fraction(1, 2))).rjust(shown + 1, "0")
+    digits = str(int(abs(value) * 10**shown + Fraction(1, 2))).rjust(shown + 1, "0")
     text = f"{digits[:-shown]}.{digits[-shown:]}" if shown else digits
     return ("about " if places is None else "") + ("-" if value < 0 else "") + text
 
 
 @dataclass(frozen=True, repr=False)
 class Record(Mapping[str, Number]):
-    """What a field holds. As a mapping it has each number that is there, by its key on the sheet, in their order; what is
-    absent is not in it. `indicator` has the items, `parts` the chain of each, `numbers` the slots of docs/NUMBERS.md."""
+    """What a field holds. As a mapping it has each number that is there, by its key on the sheet, in their order; what
+    is absent is not in it. `indicator` has the items, `parts` the chain of each, `numbers` the slots of the page
+    docs/NUMBERS.md."""
 
     cat: int
     indicator: int = 0
     parts: tuple[int, ...] = (0,) * 8
     numbers: tuple[int, ...] = (0,) * SLOTS
+
+    def __post_init__(self) -> None:
+        if (len(self.parts), len(self.numbers)) != (8, SLOTS):
+            given = f"{len(self.parts)} and {len(self.numbers)}"
+            raise ValueError(f"a record has the parts of 8 chains and {SLOTS} numbers, and not {given}")
 
     @property
     def present(self) -> tuple[str, ...]:
@@ -313,12 +357,12 @@ class Record(Mapping[str, Number]):
 
     def chain(self, name: str) -> int:
         """How many parts the chain of an item has; 0 if it is absent or has none."""
-        return self.parts[CATEGORIES[self.cat].item(name).number - 1]
+        return self.parts[known(self.cat).item(name).number - 1]
 
     def changed(self, numbers: Mapping[str, int], parts: Mapping[str, int] | None = None) -> Record:
-        """A record with these numbers by key, and with at least so many parts in the chains of these items. What they stand
-        in is there then, too; `write` refuses by 10 what no field holds."""
-        category, made = CATEGORIES[self.cat], self
+        """A record with these numbers by key, and with at least so many parts in the chains of these items. What they
+        stand in is there then, too; `write` refuses by 10 what no field holds."""
+        category, made = known(self.cat), self
         for key, number in numbers.items():
             item, line, run = category.number_at(key)
             flag = item.flag(line)
@@ -330,15 +374,15 @@ class Record(Mapping[str, Number]):
 
     def _there(self, item: Item, count: int) -> Record:
         k = item.number - 1
-        parts = self.parts[:k] + (max(self.parts[k], count),) + self.parts[k + 1:]
+        parts = self.parts[:k] + (max(self.parts[k], count),) + self.parts[k + 1 :]
         return replace(self, indicator=self.indicator | item.bit, parts=parts)
 
     def _put(self, run: Run, number: int) -> Record:
         return replace(self, numbers=tuple(number if k == run.slot else old for k, old in enumerate(self.numbers)))
 
     def _items(self) -> Iterator[Item]:
-        known = CATEGORIES.get(self.cat)
-        return (item for item in known.items if self.indicator & item.bit) if known else iter(())
+        category = CATEGORIES.get(self.cat)
+        return (item for item in category.items if self.indicator & item.bit) if category else iter(())
 
     def lines(self) -> Iterator[tuple[Item, Line]]:
         """The chain parts and subfields that are there, in their order in the field."""
@@ -354,7 +398,12 @@ class Record(Mapping[str, Number]):
 
     @cached_property
     def _found(self) -> dict[str, Number]:
-        return {run.key: Number(self.of(run), run) for _, line in self.lines() for run in line.runs if run.key and not run.flag}
+        return {
+            run.key: Number(self.of(run), run)
+            for _, line in self.lines()
+            for run in line.runs
+            if run.key and not run.flag
+        }
 
     def __iter__(self) -> Iterator[str]:
         return iter(self._found)
@@ -366,10 +415,13 @@ class Record(Mapping[str, Number]):
         return self._found[key]
 
     def __repr__(self) -> str:
-        return f"Record({self.cat}, {', '.join(self.present) or 'no items'}: {({key: int(n) for key, n in self.items()})})"
+        return (
+            f"Record({self.cat}, {', '.join(self.present) or 'no items'}: {({key: int(n) for key, n in self.items()})})"
+        )
 
 
 # ---- words of requests and answers
+
 
 def _within(value: int, low: int, high: int, what: str) -> int:
     if not isinstance(value, int) or not low <= value <= high:
@@ -383,7 +435,7 @@ def _cat(cat: int) -> int:
 
 def _hex(octets: Octets, most: int) -> str:
     """The first octets, as many as can matter."""
-    return memoryview(octets)[:most].hex().upper() or "-"
+    return bytes(memoryview(octets))[:most].hex().upper() or "-"
 
 
 def _field(octets: Octets) -> str:
@@ -391,15 +443,17 @@ def _field(octets: Octets) -> str:
 
 
 def _room(room: int) -> int:
-    return min(_within(room, 0, 1 << 63, "a room"), 300)  # of more the protocol has no word, and every result has room in it
+    return min(
+        _within(room, 0, 1 << 63, "a room"), 300
+    )  # of more the protocol has no word, and every result has room in it
 
 
 def _items(cat: int, names: Iterable[str]) -> list[Item]:
-    """The items of these names; none in a category without a paper, which is refused before an item or a list is looked at."""
+    """The items of these names; none in a category without a paper, which is refused before an item or a list is
+    looked at."""
     if isinstance(names, str):
         raise UnknownName(f"a list is made of names, as slot({names!r}), and is none itself")
-    known = CATEGORIES.get(cat)
-    return [known.item(name) for name in set(names)] if known else []
+    return [known(cat).item(name) for name in set(names)] if cat in CATEGORIES else []
 
 
 def _number(cat: int, name: str) -> int:
@@ -421,12 +475,10 @@ def _view(start: str, length: str, octets: str) -> View:
 
 
 def _choice(which: str, start: str, length: str, octets: str) -> Choice:
-    return Choice(WHICH[int(which)], *_view(start, length, octets))
+    return Choice({"1": WHICH[1], "2": WHICH[2]}[which], *_view(start, length, octets))
 
 
 def _record(length: str, cat: str, items: str, *rest: str) -> Record:
-    if len(rest) != 8 + SLOTS:
-        raise ValueError(rest)
     numbers = tuple(map(int, rest))
     return Record(int(cat), int(items), numbers[:8], numbers[8:])
 
@@ -440,21 +492,26 @@ def _sheet(*lines: str) -> str:
 
 
 def _refused(number: str, place: str, which: str = "0") -> Refused:
-    return Refused(int(number), int(place), WHICH[int(which)])
+    if int(number) not in REFUSALS:
+        raise ValueError(number)
+    return Refused(int(number), int(place), dict(zip("012", WHICH))[which])
 
 
 # ---- the desk
 
-def found(program: str | os.PathLike[str] | None = None) -> str:
-    """The program: the one that is named, or else by $REFDESK; or the one that was built or installed with this file; or
-    `refdesk` on the PATH."""
+
+def _found(program: str | os.PathLike[str] | None = None) -> str:
+    """The program: the one that is named, or else by $REFDESK; or the one that was built or installed with this file;
+    or `refdesk` on the PATH."""
     named = program or os.environ.get("REFDESK")
     if named:
         return shutil.which(os.fspath(named)) or os.fspath(named)
     built = [str(HERE.parent / folder / "refdesk") for folder in ("target/bin", "bin")]
     path = next(filter(os.path.isfile, built), None) or shutil.which("refdesk")
     if path is None:
-        raise DeskMissing(f"refdesk is not built yet: `make` in {HERE.parent} proves and builds it, which takes some minutes")
+        raise DeskMissing(
+            f"refdesk is not built yet: `make` in {HERE.parent} proves and builds it, which takes some minutes"
+        )
     return path
 
 
@@ -462,18 +519,22 @@ def _command(program: str) -> list[str]:
     """How it is started. A build is for x86-64, and bin/run has the kit's emulator run it on another processor."""
     with open(program, "rb") as file:
         built = file.read(4) == b"\x7fELF"
-    return [str(HERE.parent / "bin" / "run"), os.path.abspath(program)] if built and platform.machine() != "x86_64" else [program]
+    return (
+        [str(HERE.parent / "bin" / "run"), os.path.abspath(program)]
+        if built and platform.machine() != "x86_64"
+        else [program]
+    )
 
 
 class Desk:
     """One `refdesk` process. Use it in a `with` block, or close it. Threads may share it: their requests take turns.
 
-    A field goes by its category and its octets from LEN on, an item by its name, a list by the names of its items. Where an
-    output has a room, that is how many octets it has; `LONGEST` is enough for every field. Each method gives the result or
-    raises `Refused`; no method has another effect."""
+    A field goes by its category and its octets from LEN on, an item by its name, a list by the names of its items.
+    Where an output has a room, that is how many octets it has; `LONGEST` is enough for every field. Each method gives
+    the result or raises `Refused`; no method has another effect."""
 
     def __init__(self, program: str | os.PathLike[str] | None = None) -> None:
-        self.program = found(program)
+        self.program = _found(program)
         self._turn = threading.Lock()
         try:  # in a session of its own, so that what a terminal sends to the caller does not end it
             self._process = subprocess.Popen(
@@ -487,7 +548,9 @@ class Desk:
     def __enter__(self) -> Desk:
         return self
 
-    def __exit__(self, kind: type[BaseException] | None, error: BaseException | None, trace: TracebackType | None) -> None:
+    def __exit__(
+        self, kind: type[BaseException] | None, error: BaseException | None, trace: TracebackType | None
+    ) -> None:
         self.close()
 
     def close(self) -> None:
@@ -503,7 +566,10 @@ class Desk:
 
     def write(self, record: Record, room: int = LONGEST) -> bytes:
         """The field of a record."""
-        head = [_within(n, 0, 255, "a category, indicator or count of parts") for n in (record.cat, record.indicator, *record.parts)]
+        head = [
+            _within(n, 0, 255, "a category, indicator or count of parts")
+            for n in (record.cat, record.indicator, *record.parts)
+        ]
         numbers = [_within(n, -1 << 31, (1 << 31) - 1, "a number of a record") for n in record.numbers]
         return self._ask(_octets, "write", _room(room), *head, *numbers)
 
@@ -521,14 +587,19 @@ class Desk:
 
     def remove(self, cat: int, field: Octets, listed: Iterable[str], item: str, room: int = LONGEST) -> bytes:
         """A field without an item, by a slot that was booked for the listed ones."""
-        return self._ask(_octets, "remove", _cat(cat), _field(field), _list(cat, listed), _number(cat, item), _room(room))
+        return self._ask(
+            _octets, "remove", _cat(cat), _field(field), _list(cat, listed), _number(cat, item), _room(room)
+        )
 
     def replace(
         self, cat: int, field: Octets, listed: Iterable[str], item: str, new: Octets, room: int = LONGEST
     ) -> bytes:
-        """A field with new octets in an item's place, or with the item added, by a slot that was booked for the listed ones."""
+        """A field with new octets in an item's place, or with the item added, by a slot that was booked for the
+        listed ones."""
         octets = _hex(new, 254)  # 01: more than 253 are refused by 14, whatever they are
-        return self._ask(_octets, "replace", _cat(cat), _field(field), _list(cat, listed), _number(cat, item), octets, _room(room))
+        return self._ask(
+            _octets, "replace", _cat(cat), _field(field), _list(cat, listed), _number(cat, item), octets, _room(room)
+        )
 
     def copy(self, cat: int, field: Octets, withheld: Iterable[str], room: int = LONGEST) -> bytes:
         """A field without the items that are withheld."""
@@ -536,7 +607,7 @@ class Desk:
 
     def rebuild(self, text: str | Octets, room: int = LONGEST) -> Field:
         """The category and the field whose sheet a text is."""
-        octets = text.encode("utf-8", "replace") if isinstance(text, str) else text
+        octets = text.encode("utf-8", "replace") if isinstance(text, str) else bytes(memoryview(text))
         if len(octets) > LONGEST_TEXT:
             raise Refused(18, 0)  # 02, Ask 6; such a text is longer than a line of the protocol
         # no sheet has as many octets as a word may have, so that a longer text is wrong at a line that begins in these
@@ -552,13 +623,14 @@ class Desk:
                 return taken(*rest)
             if verdict == "refused":
                 raise _refused(*rest)
-        except (IndexError, TypeError, ValueError):
-            pass
+        except (LookupError, TypeError, ValueError):
+            pass  # it is not of the form that this request's answers have
         self.close()
         raise DeskFailed(f"{self.program} gave no answer to {name} but {answer[:100]!r}")
 
     def _answer(self, line: str) -> str:
-        """One line for one line. Whatever cuts it short ends the process: a late answer would be taken for the next one's."""
+        """One line for one line. Whatever cuts it short ends the process: a late answer would be taken for the next
+        one's."""
         with self._turn:
             if self._to.closed:
                 raise DeskFailed("the desk is closed")

@@ -26,7 +26,8 @@ class Asking:
 
 @dataclass(frozen=True)
 class Answer:
-    """`data` is for --json and `text` for the screen. Where a refusal writes nothing, `complaint` says it on standard error."""
+    """`data` is for --json and `text` for the screen. Where a refusal writes nothing, `complaint` says it on standard
+    error."""
 
     accepted: bool
     data: Data
@@ -68,6 +69,7 @@ def reading(desk: Desk, cat: int, field: bytes) -> tuple[Record | None, Refused 
 
 # ---- commands that show a field
 
+
 def sheet(ask: Asking, line: Line) -> Answer:
     cat, field, data = field_data(line)
     try:
@@ -80,7 +82,9 @@ def sheet(ask: Asking, line: Line) -> Answer:
 
 
 def number_data(number: Number) -> Data:
-    measured = {} if number.value is None else {"value": float(number.value), "unit": number.unit, "sense": number.sense}
+    measured = (
+        {} if number.value is None else {"value": float(number.value), "unit": number.unit, "sense": number.sense}
+    )
     return {"key": number.key, "number": number.number, **measured}
 
 
@@ -93,7 +97,9 @@ def read(ask: Asking, line: Line) -> Answer:
     data["items"] = [{"name": name, "parts": record.chain(name)} for name in record.present]
     data["numbers"] = [number_data(number) for number in record.values()]
     wide = max(map(len, record), default=0)
-    told = [f"{key:{wide}}  {number.number:>9}  {number if number.unit else ''}".rstrip() for key, number in record.items()]
+    told = [
+        f"{key:{wide}}  {number.number:>9}  {number if number.unit else ''}".rstrip() for key, number in record.items()
+    ]
     return ok(data, "".join(f"{row}\n" for row in told))
 
 
@@ -107,7 +113,13 @@ def run_data(placed: Placed, record: Record | None) -> Iterator[Data]:
 
 def line_data(placed: Placed, record: Record | None) -> Data:
     runs = list(run_data(placed, record)) if placed.whole else []
-    return {"at": placed.at, "octets": hexed(placed.octets), "item": placed.item.name, "line": placed.line.name, "runs": runs}
+    return {
+        "at": placed.at,
+        "octets": hexed(placed.octets),
+        "item": placed.item.name,
+        "line": placed.line.name,
+        "runs": runs,
+    }
 
 
 def title(cat: int) -> str:
@@ -137,6 +149,7 @@ def map_of(ask: Asking, line: Line) -> Answer:
 
 # ---- why
 
+
 def why_data(told: Why) -> Data:
     data: Data = {"is": told.bits, "may_be": told.right, "facts": [*told.subject, *told.facts]}
     return {**data, "mended": hexed(told.mended)} if told.mended else data
@@ -145,7 +158,9 @@ def why_data(told: Why) -> Data:
 def why_text(told: Why, paint: Callable[[str, str], str]) -> str:
     marked = [paint("wrong", row) if row.endswith("^^") else row for row in told.marked()]
     bits = [f"  it is      {told.bits or 'not there'}", f"  it may be  {told.right}"] if told.right else []
-    return "".join(f"{row}\n" for row in [paint("wrong", str(told.refused)), "", *marked, "", *told.subject, *bits, *told.facts])
+    return "".join(
+        f"{row}\n" for row in [paint("wrong", str(told.refused)), "", *marked, "", *told.subject, *bits, *told.facts]
+    )
 
 
 def advice(refused: Refused) -> str:
@@ -169,11 +184,14 @@ def why_edited(ask: Asking, line: Line) -> Answer:
     slots, new = listed(line, ask.given.slot, "--slot"), new_octets(line, ask.given)
     facts, inner = why_edit(ask.desk, line.cat(), slots, ask.given.item, new, done.data["refused"]["number"])
     told: Data = {"facts": facts, "new": why_data(inner)} if inner else {"facts": facts}
-    text = "\n".join([ask.paint("wrong", done.complaint), "", *facts, ""]) + (f"\n{why_text(inner, ask.paint)}" if inner else "")
+    text = "\n".join([ask.paint("wrong", done.complaint), "", *facts, ""]) + (
+        f"\n{why_text(inner, ask.paint)}" if inner else ""
+    )
     return Answer(False, {**done.data, "why": told}, text)
 
 
 # ---- commands that write a field, or show an item
+
 
 def listed(line: Line, options: list[str], option: str) -> frozenset[str]:
     """The names of a list for a line's category: `RPC,ERR` is for every category, `48=RPC,ERR` for that one."""

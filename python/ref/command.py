@@ -7,7 +7,6 @@ import os
 import sys
 import textwrap
 from collections.abc import Callable, Iterator
-from contextlib import contextmanager
 from typing import Any, NamedTuple, NoReturn, TextIO
 
 from paltinoma import Desk, DeskFailed, UnknownName
@@ -25,6 +24,7 @@ COLOURS = {"head": "1", "flag": "36", "spare": "2", "wrong": "1;31", "unread": "
 
 # ---- the words
 
+
 class Command(NamedTuple):
     """What a command does, examples of it, and what it takes; an option with ! must be given."""
 
@@ -33,7 +33,8 @@ class Command(NamedTuple):
     answer: Callable[[Asking, Line], Answer] | None  # None is for texts
     options: str = ""
     words: str = "CATEGORY OCTETS"
-    headed: bool = False  # whether each of many answers has a heading
+    apart: bool = False  # of many answers, a blank line stands between two
+    headed: bool = False  # of many answers, each has a heading
 
 
 COMMANDS = {
@@ -41,17 +42,20 @@ COMMANDS = {
         "the sheet: a key=value line for each number",
         ["ref sheet 48 062806010000", "ref sheet 48 06 28 06 01 00 00", "ref sheet day.txt"],
         answers.sheet,
+        apart=True,
     ),
     "read": Command(
         "the numbers with their units",
         ["ref read 48 062806010000", "ref read --json day.txt"],
         answers.read,
+        apart=True,
         headed=True,
     ),
     "map": Command(
         "each octet beside the item, the subfield and the number that it is",
         ["ref map 48 062806010000", "ref map 21 04800FFF"],
         answers.map_of,
+        apart=True,
         headed=True,
     ),
     "why": Command(
@@ -59,6 +63,7 @@ COMMANDS = {
         ["ref why 48 03200F", "ref why --slot RPC,ERR --item ERR --to 0200 48 062806010000"],
         answers.why_of,
         options="slot item to remove",
+        apart=True,
         headed=True,
     ),
     "page": Command(
@@ -82,7 +87,10 @@ COMMANDS = {
     ),
     "edit": Command(
         "the field with one item replaced, added or removed, by a slot",
-        ["ref edit --slot RPC,ERR --item ERR --to 020000 48 062806010000", "ref edit --slot M4E --item M4E --remove 48 062806010000"],
+        [
+            "ref edit --slot RPC,ERR --item ERR --to 020000 48 062806010000",
+            "ref edit --slot M4E --item M4E --remove 48 062806010000",
+        ],
         answers.edit,
         options="slot! item! to remove",
     ),
@@ -139,16 +147,28 @@ def help_text(about: str, examples: list[str]) -> str:
 
 def parser() -> Parser:
     def told(description: str, about: str, examples: list[str]) -> dict[str, Any]:
-        return {"description": description, "epilog": help_text(about, examples), "formatter_class": argparse.RawDescriptionHelpFormatter}
+        return {
+            "description": description,
+            "epilog": help_text(about, examples),
+            "formatter_class": argparse.RawDescriptionHelpFormatter,
+        }
 
-    program = "Reserved Expansion Fields of ASTERIX categories 048, 021 and 007, answered by the proved program refdesk."
+    program = (
+        "Reserved Expansion Fields of ASTERIX categories 048, 021 and 007, answered by the proved program refdesk."
+    )
     top = Parser(prog="ref", **told(program, ABOUT_LINES, [command.examples[0] for command in COMMANDS.values()]))
     every = top.add_subparsers(dest="command", metavar="COMMAND", required=True)
     for name, command in COMMANDS.items():
-        one = every.add_parser(name, help=command.does, **told(command.does, ABOUT_LINES if command.answer else ABOUT_TEXTS, command.examples))
+        one = every.add_parser(
+            name,
+            help=command.does,
+            **told(command.does, ABOUT_LINES if command.answer else ABOUT_TEXTS, command.examples),
+        )
         one.add_argument("words", nargs="*", metavar=command.words, help="what is asked about")
         one.add_argument("--json", action="store_true", help="an object of JSON for each, in a line")
-        one.add_argument("--program", metavar="PATH", help="refdesk, if not the one that was built or installed with this")
+        one.add_argument(
+            "--program", metavar="PATH", help="refdesk, if not the one that was built or installed with this"
+        )
         for option in command.options.split():
             one.add_argument(f"--{option.rstrip('!')}", required=option.endswith("!"), **OPTIONS[option.rstrip("!")])
     return top
@@ -156,15 +176,14 @@ def parser() -> Parser:
 
 # ---- the answers
 
+
 def painted(coloured: bool) -> Callable[[str, str], str]:
     """How a text of a kind is coloured."""
+
     def paint(kind: str, text: str) -> str:
         return f"\033[{COLOURS[kind]}m{text}\033[0m" if coloured and kind in COLOURS else text
+
     return paint
-
-
-def has_colour(out: TextIO) -> bool:
-    return out.isatty() and "NO_COLOR" not in os.environ and os.environ.get("TERM") != "dumb"
 
 
 class Told(NamedTuple):
@@ -176,46 +195,63 @@ class Told(NamedTuple):
 
 
 def told(ask: Asking, command: Command, words: list[str]) -> Iterator[Told]:
-    for line in lines(words) if command.answer else ():
+    """The answers to what the words ask about."""
+    if command.answer is None:
+        yield from rebuilt(ask, words)
+        return
+    for line in lines(words):
         try:
-            yield Told(line.where, " ".join(line.words), command.answer(ask, line))  # type: ignore[misc]
+            yield Told(line.where, " ".join(line.words), command.answer(ask, line))
         except UnknownName as error:
             raise line.wrong(error) from None
-    for name, at, text in () if command.answer else texts(words):
+
+
+def rebuilt(ask: Asking, words: list[str]) -> Iterator[Told]:
+    """The answers to texts; a refused one is where its wrong line is."""
+    for name, at, text in texts(words):
         answer = answers.rebuild(ask, text)
-        place = 0 if answer.accepted else answer.data["refused"]["place"]
-        yield Told(f"{name}, line {at + max(place - 1, 0)}", "", answer)
+        place = 1 if answer.accepted else max(1, answer.data["refused"]["place"])
+        yield Told(f"{name}, line {at + place - 1}", "", answer)
 
 
-def put(one: Told, given: argparse.Namespace, out: TextIO, first: bool) -> None:
-    """An answer to the screen, or as JSON; a refusal that has no other text to standard error."""
+class Output:
+    """Where the answers go, from the first one on: until then nothing is written, and no file made."""
+
+    def __init__(self, given: argparse.Namespace) -> None:
+        self.name: str | None = getattr(given, "out", None)
+        self.page = given.command == "page" and not given.json
+        self.terminal = self.name is None and sys.stdout.isatty()
+        self.to: TextIO | None = None
+
+    def put(self, text: str) -> None:
+        if self.to is None:
+            try:
+                self.to = open(self.name, "w", encoding="utf-8") if self.name else sys.stdout
+            except OSError as error:
+                raise Usage(f"{self.name} can't be written: {error.strerror}") from None
+            self.to.write(HEAD if self.page else "")
+        self.to.write(text)
+        self.to.flush()  # what is asked next may wait for it
+
+    def end(self) -> None:
+        if self.to and self.page:
+            self.put(FOOT)
+        if self.to and self.name:
+            self.to.close()
+
+
+def put(one: Told, given: argparse.Namespace, out: Output) -> None:
+    """An answer to the screen, or as JSON; a refusal that has no text there to standard error."""
     many, command, answer = is_many(given.words), COMMANDS[given.command], one.answer
     if given.json:
-        out.write(json.dumps({"where": one.where, **answer.data} if one.where else answer.data) + "\n")
+        out.put(json.dumps({"where": one.where, **answer.data} if one.where else answer.data) + "\n")
         return
     if answer.complaint:
         print(f"ref: {one.where}: {answer.complaint}" if one.where else f"ref: {answer.complaint}", file=sys.stderr)
-    if many and not first and (command.headed or given.command == "sheet"):
-        out.write("\n")
-    if many and command.headed and answer.text:
-        out.write(f"{one.where}: {one.asked}\n")
-    out.write(answer.text)
-
-
-@contextmanager
-def opened(given: argparse.Namespace) -> Iterator[TextIO]:
-    """Where the answers go; those of a page between its head and its foot."""
-    name, whole = getattr(given, "out", None), given.command == "page" and not given.json
-    try:
-        out = open(name, "w", encoding="utf-8") if name else sys.stdout
-    except OSError as error:
-        raise Usage(f"{name} can't be written: {error.strerror}") from None
-    try:
-        out.write(HEAD if whole else "")
-        yield out
-        out.write(FOOT if whole else "")
-    finally:
-        out.flush() if out is sys.stdout else out.close()
+    if answer.text:
+        gap = "\n" if many and command.apart and out.to else ""
+        heading = f"{one.where}: {one.asked}\n" if many and command.headed else ""
+        out.put(gap + heading + answer.text)
 
 
 def check_edit(given: argparse.Namespace) -> None:
@@ -226,17 +262,19 @@ def check_edit(given: argparse.Namespace) -> None:
 
 
 def run(given: argparse.Namespace) -> int:
-    command, status = COMMANDS[given.command], ACCEPTED
+    """The answers, one by one; the exit status."""
+    out, status = Output(given), ACCEPTED
+    coloured = out.terminal and "NO_COLOR" not in os.environ and os.environ.get("TERM") != "dumb"
+    progress = Progress(sys.stderr, out.terminal)
     if "slot" in given:
         check_edit(given)
-    with Desk(given.program) as desk, opened(given) as out:
-        ask, progress = Asking(desk, given, painted(has_colour(out) and not given.json)), Progress(sys.stderr, out)
-        for one in told(ask, command, given.words):
-            put(one, given, out, progress.count == 0)
-            out.flush()  # what is asked next may wait for it
+    with Desk(given.program) as desk:
+        for one in told(Asking(desk, given, painted(coloured)), COMMANDS[given.command], given.words):
+            put(one, given, out)
             progress.step(one.answer.accepted)
             status = status if one.answer.accepted else REFUSED
-        progress.end()
+    out.end()
+    progress.end()
     return status
 
 

@@ -1,7 +1,8 @@
 """What a command is asked about: lines of words, from the command line, files or standard input.
 
-A line is a category and what belongs to it, mostly the octets of a field: `48 062806010000`, hex with or without spaces. On the
-command line stands one such line, or the names of files that have many; blank lines there and what begins with # are passed over.
+A line is a category and what belongs to it, mostly the octets of a field: `48 062806010000`, hex with or without
+spaces. On the command line stands one such line, or the names of files that have many; blank lines there and what
+begins with # are passed over.
 """
 from __future__ import annotations
 
@@ -64,7 +65,8 @@ def is_file(word: str) -> bool:
 
 
 def split(words: list[str]) -> tuple[list[str], list[str]]:
-    """The words that stand before each line, and the names of the files; no names if the words are a line themselves."""
+    """The words that stand before each line, and the names of the files; no names if the words are a line
+    themselves."""
     if not words or not re.fullmatch("[0-9]+", words[0]):
         return [], words or ["-"]
     if len(words) == 2 and is_file(words[1]):
@@ -90,7 +92,8 @@ def lines(words: list[str]) -> Iterator[Line]:
 
 
 def texts(words: list[str]) -> Iterator[tuple[str, int, str]]:
-    """Sheets, and the file and the line where each begins. A file may have many, with a blank line before each but the first."""
+    """Sheets, and the file and the line where each begins. A file may have many, with a blank line before each but the
+    first."""
     for name in words or ["-"]:
         with opened(name, newline="") as file:
             *others, last = file.read().split("\n\n")

@@ -1,6 +1,7 @@
-"""A field laid beside its paper: which chain part or subfield each octet is of, and which number or spare bits each bit is.
+"""A field laid beside its paper: which chain part or subfield each octet is of, which number or spare bits each bit.
 
-What the numbers of an accepted field are was asked of the desk; here is where they stand, by the layouts of paltinoma.json.
+What the numbers of an accepted field are was asked of the desk; where they stand is here, by the layouts of
+paltinoma.json.
 """
 from __future__ import annotations
 
@@ -14,7 +15,8 @@ FX = Run(1, 1)  # of a chain part
 
 @dataclass(frozen=True)
 class Placed:
-    """A chain part or subfield in a field: where it begins, and its octets, fewer than it needs where the field ends within it."""
+    """A chain part or subfield in a field: where it begins, and its octets, fewer than it needs where the field ends
+    within it."""
 
     at: int
     item: Item
@@ -45,7 +47,8 @@ class Placed:
         return int.from_bytes(self.octets, "big") >> run.lo - 1 & (1 << run.width) - 1
 
     def number(self, run: Run, record: Record | None = None) -> Number:
-        """The number of a run: of the record that the desk gave, or what its bits are where a field was refused and has none."""
+        """The number of a run: of the record that the desk gave, or what its bits are where a field was refused and
+        has none."""
         bits = self.bits(run)
         signed = bits - (1 << run.width) if run.signed and bits >> run.width - 1 else bits
         return Number(signed if record is None else record.of(run), run)
@@ -72,7 +75,7 @@ def item_lines(item: Item, field: bytes, at: int) -> Iterator[Placed]:
     for line in item.lines:
         if not goes_on if line.chain else item.parts and f"{item.name}.{line.name}" not in flagged:
             continue
-        placed = Placed(at, item, line, field[at:at + line.octets])
+        placed = Placed(at, item, line, field[at : at + line.octets])
         yield placed
         at += line.octets
         if line.chain:
@@ -82,7 +85,7 @@ def item_lines(item: Item, field: bytes, at: int) -> Iterator[Placed]:
 
 def lines_of(category: Category, field: bytes) -> Iterator[Placed]:
     """The chain parts and subfields of a field of two octets or more, up to the first that is not whole before LEN."""
-    at, field = 2, field[:field[0]]
+    at, field = 2, field[: field[0]]
     for item in category.items:
         if not field[1] & item.bit:
             continue
@@ -94,7 +97,8 @@ def lines_of(category: Category, field: bytes) -> Iterator[Placed]:
 
 
 def read_lines(cat: int, field: bytes, refused: Refused | None) -> list[Placed]:
-    """Those that the desk went through: all of an accepted field; of a refused one those up to the place of the refusal."""
+    """Those that the desk went through: all of an accepted field; of a refused one those up to the place of the
+    refusal."""
     if refused and refused.number < 5:
         return []
     return [placed for placed in lines_of(CATEGORIES[cat], field) if refused is None or placed.at <= refused.place]
@@ -102,9 +106,11 @@ def read_lines(cat: int, field: bytes, refused: Refused | None) -> list[Placed]:
 
 # ---- the map
 
+
 @dataclass(frozen=True)
 class Row:
-    """A run of bits in an octet. The octet stands in the first row that is of it; name, bits and text in the first of the run."""
+    """A run of bits in an octet. The octet stands in the first row that is of it; name, bits and text in the first of
+    the run."""
 
     at: int
     octet: str = ""
@@ -151,7 +157,9 @@ def cut_rows(placed: Placed) -> Iterator[Row]:
     text = f"{placed.line.octets} octet{'s' * (placed.line.octets > 1)} should stand here before LEN"
     for k, octet in enumerate(placed.octets):
         yield Row(placed.at + k, f"{octet:02X}", f"{octet:08b}", placed.name * (k == 0), "", text * (k == 0))
-    yield Row(placed.at + len(placed.octets), "--", "", placed.name * (not placed.octets), "", text * (not placed.octets))
+    yield Row(
+        placed.at + len(placed.octets), "--", "", placed.name * (not placed.octets), "", text * (not placed.octets)
+    )
 
 
 def head_rows(cat: int, field: bytes) -> Iterator[Row]:
@@ -181,7 +189,8 @@ def body_rows(cat: int, field: bytes, record: Record | None, refused: Refused | 
 
 
 def rows(cat: int, field: bytes, record: Record | None, refused: Refused | None) -> list[Row]:
-    """Every octet of a field with its record, or of a refused one with its refusal: what could be read, then what was not."""
+    """Every octet of a field with its record, or of a refused one with its refusal: what could be read, then what was
+    not."""
     found = [*head_rows(cat, field), *body_rows(cat, field, record, refused)]
     if refused and refused.number < 5:
         found = [replace(row, kind="wrong") if row.at == refused.place else row for row in found]

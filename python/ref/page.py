@@ -1,4 +1,5 @@
-"""Fields as one page of HTML: the sheet, and each octet beside what it is. It stands for itself: no script, nothing from elsewhere."""
+"""Fields as one page of HTML: the sheet, and each octet beside what it is. It stands for itself: no script, nothing
+from elsewhere."""
 from __future__ import annotations
 
 from html import escape
@@ -76,7 +77,8 @@ def cells(*told: tuple[str, str]) -> str:
 
 
 def sheet_table(record: Record, text: str) -> str:
-    """Every line of the sheet, and beside a number what it is in its unit; the names of the items have room for a line below."""
+    """Every line of the sheet, and beside a number what it is in its unit; the names of the items have room for a
+    line below."""
     told = []
     for key, value in (row.split("=") for row in text.splitlines()):
         if key == "items":
@@ -114,13 +116,17 @@ def groups(found: list[Row]) -> list[list[Row]]:
 def map_row(row: Row) -> str:
     at = str(row.at) if row.octet else ""
     said = f"{row.bits}: {row.text}" if row.text and row.bits else row.text
-    return f'<tr class="{row.kind}">{cells(("bits", at), ("bits", row.octet), ("bits", row.shown), ("said", said))}</tr>\n'
+    return (
+        f'<tr class="{row.kind}">{cells(("bits", at), ("bits", row.octet), ("bits", row.shown), ("said", said))}</tr>\n'
+    )
 
 
 def map_table(cat: int, found: list[Row]) -> str:
     """A heading for each part and subfield, and below it a row for each run of bits in each octet."""
     told = []
     for own in groups(found):
-        heading = f"<tr><th colspan=\"4\">{escape(own[0].name)}{section(cat, own[0].name)}</th></tr>\n" if own[0].name else ""
+        heading = (
+            f'<tr><th colspan="4">{escape(own[0].name)}{section(cat, own[0].name)}</th></tr>\n' if own[0].name else ""
+        )
         told.append(f"<tbody>\n{heading}{''.join(map(map_row, own))}</tbody>\n")
     return "<table>\n" + "".join(told) + "</table>\n"

@@ -10,11 +10,12 @@ PAUSE = 0.25  # seconds before it is written over again
 
 
 class Progress:
-    """Counts the answers. At a terminal one line is written over, unless the answers go there too; elsewhere a line stands for many."""
+    """Counts the answers. At a terminal one line is written over, unless the answers go there too; elsewhere a line
+    stands for many."""
 
-    def __init__(self, to: TextIO, answers: TextIO) -> None:
+    def __init__(self, to: TextIO, answers_there: bool) -> None:
         self.to, self.count, self.refused, self.shown = to, 0, 0, time.monotonic()
-        self.over, self.apart = to.isatty() and not answers.isatty(), not to.isatty()
+        self.over, self.apart = to.isatty() and not answers_there, not to.isatty()
 
     def step(self, accepted: bool) -> None:
         self.count += 1

@@ -1,7 +1,7 @@
 """A refusal explained: in words, with the octet marked, and what would be right there.
 
-That a field is refused, by which number and where, is the desk's answer. Which part of the paper that concerns is found by the
-layouts, and what becomes of a field that is mended there is asked of the desk again.
+That a field is refused, by which number and where, is the desk's answer. Which part of the paper that concerns is
+found by the layouts, and what becomes of a field that is mended there is asked of the desk again.
 """
 from __future__ import annotations
 
@@ -40,7 +40,11 @@ class Why:
 def why(desk: Desk, cat: int, octets: bytes, refused: Refused) -> Why:
     """The explanation of a reader's refusal, by 1 to 9."""
     told = explained(desk, cat, octets, refused)
-    told.facts += [f"As category {other} it is accepted." for other in CATEGORIES if other != cat and refusal(desk, other, octets) is None]
+    told.facts += [
+        f"As category {other} it is accepted."
+        for other in CATEGORIES
+        if other != cat and refusal(desk, other, octets) is None
+    ]
     return told
 
 
@@ -66,7 +70,10 @@ def refusal(desk: Desk, cat: int, octets: bytes) -> Refused | None:
 
 def after(desk: Desk, told: Why, mended: bytes) -> str:
     """What the desk says of the mended field."""
-    at, end = (next(k for k in order if told.field[k] != mended[k]) for order in (range(len(mended)), range(len(mended) - 1, -1, -1)))
+    at, end = (
+        next(k for k in order if told.field[k] != mended[k])
+        for order in (range(len(mended)), range(len(mended) - 1, -1, -1))
+    )
     put = f"With {mended[at:end + 1].hex(' ').upper()} at octet {at}"
     next_one = refusal(desk, told.cat, mended)
     return f"{put} the field is accepted." if next_one is None else f"{put} it is {str(next_one).replace(':', ',')}."
@@ -74,13 +81,16 @@ def after(desk: Desk, told: Why, mended: bytes) -> str:
 
 # ---- what each number says of the field
 
+
 def short(told: Why, category: Category) -> None:
     if not told.field:
         told.facts.append("There are no octets; a field has LEN and the items indicator at least.")
         return
     length, there = told.field[0], len(told.field)
     told.subject = ["Octet 0 is LEN, the length of the whole field."]
-    told.facts.append(f"LEN is {length}, and there {are(there)} {counted(there)}: {counted(length - there)} more should follow.")
+    told.facts.append(
+        f"LEN is {length}, and there {are(there)} {counted(there)}: {counted(length - there)} more should follow."
+    )
     if there > 1:
         told.mended = bytes([there]) + told.field[1:]
 
@@ -103,7 +113,9 @@ def indicator(told: Why, category: Category) -> None:
 def cut(told: Why, category: Category) -> None:
     placed = found(told, category)
     left = told.field[0] - placed.at
-    told.facts.append(f"It has {counted(placed.line.octets)}, and LEN, which is {told.field[0]}, leaves {counted(left)} for it.")
+    told.facts.append(
+        f"It has {counted(placed.line.octets)}, and LEN, which is {told.field[0]}, leaves {counted(left)} for it."
+    )
 
 
 def spare(told: Why, category: Category) -> None:
@@ -114,7 +126,8 @@ def spare(told: Why, category: Category) -> None:
 
 def goes_on(told: Why, category: Category) -> None:
     placed = found(told, category)
-    told.facts.append(f"Bit 1 is FX: 1 says that another part follows, and the edition defines {counted(len(placed.item.parts), 'part')}.")
+    parts = counted(len(placed.item.parts), "part")
+    told.facts.append(f"Bit 1 is FX: 1 says that another part follows, and the edition defines {parts}.")
     told.mended = cleared(told.field, placed)
 
 
@@ -124,14 +137,17 @@ def out_of_range(told: Why, category: Category) -> None:
         number = placed.number(run)
         if run.limits and not run.limits[0] <= number.number <= run.limits[1]:
             least, most = (Number(limit, run) for limit in run.limits)
-            told.facts.append(f"{run.key} is {number.number}, {number}; it may be from {least.number} to {most.number}, {least} to {most}.")
+            limits = f"from {least.number} to {most.number}, {least} to {most}"
+            told.facts.append(f"{run.key} is {number.number}, {number}; it may be {limits}.")
 
 
 def left_over(told: Why, category: Category) -> None:
     names = [item.name for item in category.items if told.field[1] & item.bit]
     place, left = told.refused.place, told.field[0] - told.refused.place
-    told.facts.append(f"The indicator has {', '.join(names) or 'no items'}; what it has ends before octet {place}, and LEN is {told.field[0]}: "
-                      f"{counted(left)} {are(left)} left over.")
+    told.facts.append(
+        f"The indicator has {', '.join(names) or 'no items'}; what it has ends before octet {place}, "
+        f"and LEN is {told.field[0]}: {counted(left)} {are(left)} left over."
+    )
     told.mended = bytes([place]) + told.field[1:]
 
 
@@ -141,22 +157,24 @@ EXPLAINED = {2: short, 3: small, 4: indicator, 5: cut, 6: spare, 7: goes_on, 8: 
 def found(told: Why, category: Category) -> Placed:
     """The part or subfield at the place."""
     placed = read_lines(told.cat, told.field, told.refused)[-1]
-    stands = "stands" if placed.whole else "should stand"
-    told.subject = [f"At octet {placed.at} {stands} {placed.name} (document {category.document}, {placed.item.section}: {placed.item.title})."]
-    told.bits, told.right = " ".join(f"{octet:08b}" for octet in placed.octets), pattern(placed.fixed, placed.line.octets)
+    stands, item = "stands" if placed.whole else "should stand", placed.item
+    printed = f"document {category.document}, {item.section}: {item.title}"
+    told.subject = [f"At octet {placed.at} {stands} {placed.name} ({printed})."]
+    told.bits = " ".join(f"{octet:08b}" for octet in placed.octets)
+    told.right = pattern(placed.fixed, placed.line.octets)
     return placed
 
 
 def cleared(octets: bytes, placed: Placed) -> bytes:
     """The field with 0 wherever the part or subfield must have it."""
     new = (int.from_bytes(placed.octets, "big") & ~placed.fixed).to_bytes(placed.line.octets, "big")
-    return octets[:placed.at] + new + octets[placed.at + placed.line.octets:]
+    return octets[: placed.at] + new + octets[placed.at + placed.line.octets :]
 
 
 def pattern(fixed: int, octets: int) -> str:
     """Bits as they may be, an octet's together."""
     bits = "".join("0" if fixed >> bit & 1 else "x" for bit in range(8 * octets - 1, -1, -1))
-    return " ".join(bits[k:k + 8] for k in range(0, len(bits), 8))
+    return " ".join(bits[k : k + 8] for k in range(0, len(bits), 8))
 
 
 def set_bits(spares: Iterable[Run], octets: int) -> str:
@@ -176,15 +194,23 @@ def are(n: int) -> str:
 
 # ---- what the desk's own refusals say of an edit
 
-def why_edit(desk: Desk, cat: int, listed: frozenset[str], item: str, new: bytes | None, number: int) -> tuple[list[str], Why | None]:
+
+def why_edit(
+    desk: Desk, cat: int, listed: frozenset[str], item: str, new: bytes | None, number: int
+) -> tuple[list[str], Why | None]:
     """Of 13 and 14: facts, and why the new octets are no item."""
     if number == 13:
-        return [f"The slot is booked for {', '.join(sorted(listed)) or 'no items'}, and {item} is not among them."], None
+        return [
+            f"The slot is booked for {', '.join(sorted(listed)) or 'no items'}, and {item} is not among them."
+        ], None
     if number != 14:
         return [], None
     if not new:
         return [f"There are no octets for {item}; to take an item away is a removal."], None
-    # 01: "New octets are right exactly if the field made of LEN, an indicator with that one bit, and these octets is accepted"
+    # 01: "New octets are right exactly if the field made of LEN, an indicator with that one bit, and these octets is
+    # accepted"
     alone = bytes([len(new) + 2, CATEGORIES[cat].item(item).bit]) + new
     inner = refusal(desk, cat, alone)
-    return [f"By itself, behind LEN and an indicator with the bit of {item}, it is refused:"], explained(desk, cat, alone, inner) if inner else None
+    return [f"By itself, behind LEN and an indicator with the bit of {item}, it is refused:"], explained(
+        desk, cat, alone, inner
+    ) if inner else None

@@ -1,7 +1,7 @@
 """The tests of what stands in python/, against the built program: `python3 -m unittest` in the folder python/.
 
-What they expect comes from tests/reference.py and tests/papers.py of the repository, which share nothing with the program, or
-stands here by hand from 01 and the papers.
+What they expect comes from tests/reference.py and tests/papers.py of the repository, which share nothing with the
+program, or stands here by hand from 01 and the papers.
 """
 import sys
 from pathlib import Path

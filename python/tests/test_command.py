@@ -6,20 +6,16 @@ import random
 import re
 import subprocess
 import sys
-import tempfile
 import time
 import unittest
-from pathlib import Path
 
 import reference
 from fields import good_field
 from papers import PAPERS
 from ref.command import COMMANDS
 
-from tests import ROOT
+from tests.given import ENVIRONMENT, REF, InFolder
 
-REF = ROOT / "bin" / "ref"
-ENVIRONMENT = {name: value for name, value in os.environ.items() if name not in ("PYTHONUNBUFFERED", "REFDESK", "NO_COLOR")}
 MAP = """\
 category 048, edition 1.9 (document 000): accepted
 
@@ -48,23 +44,7 @@ The octets from octet 2 on are of another edition or category, or damaged (docs/
 """
 
 
-class Started(unittest.TestCase):
-    def setUp(self):
-        folder = tempfile.TemporaryDirectory()
-        self.addCleanup(folder.cleanup)
-        self.folder = Path(folder.name)
-
-    def ref(self, *words, given="", **env):
-        """Its exit status, what it prints, and what it says on standard error."""
-        ended = subprocess.run([str(REF), *words], input=given, capture_output=True, text=True, cwd=self.folder, env={**ENVIRONMENT, **env}, timeout=120)
-        return ended.returncode, ended.stdout, ended.stderr
-
-    def file(self, text, name="day.txt"):
-        (self.folder / name).write_text(text)
-        return name
-
-
-class Shown(Started):
+class Shown(InFolder):
     def test_screens(self):
         self.assertEqual(self.ref("map", "48", "062806010000"), (0, MAP, ""))
         self.assertEqual(self.ref("why", "48", "03", "20", "0F"), (1, WHY, ""))
@@ -72,40 +52,75 @@ class Shown(Started):
 
     def test_sheet(self):
         sheet = "cat=48\nlen=6\nitems=M4E,ERR\nM4E=3\nERR=65536\nend=ok\n"
-        for words, given in ((["48", "062806010000"], ""), (["48", "06 28 06 01 00 00"], ""), (["-"], "48 062806010000\n"), ([], "48 06 28 06 01 00 00"),
-                             (["48", "-"], "062806010000"), ([self.file("48 062806010000\n")], "")):
+        for words, given in (
+            (["48", "062806010000"], ""),
+            (["48", "06 28 06 01 00 00"], ""),
+            (["-"], "48 062806010000\n"),
+            ([], "48 06 28 06 01 00 00"),
+            (["48", "-"], "062806010000"),
+            ([self.file("48 062806010000\n")], ""),
+        ):
             self.assertEqual(self.ref("sheet", *words, given=given), (0, sheet, ""), words)
         self.assertEqual(self.ref("sheet", "48", "03200F"), (1, "cat=48\nrefused=6\nat=2\n", ""))
 
     def test_read(self):
         self.assertEqual(self.ref("read", "21", "04800FFF"), (0, "BPS       4095  1209.5 hPa or more\n", ""))
         self.assertEqual(self.ref("read", "48", "062806010000"), (0, "M4E          3\nERR      65536  256 NM\n", ""))
-        self.assertEqual(self.ref("read", "48", "0280"), (1, "", "ref: refused by 5 at octet 2: chain part or subfield not wholly before LEN\n"))
+        self.assertEqual(
+            self.ref("read", "48", "0280"),
+            (1, "", "ref: refused by 5 at octet 2: chain part or subfield not wholly before LEN\n"),
+        )
 
     def test_items(self):
         self.assertEqual(self.ref("view", "--item", "ERR", "48", "062806010000"), (0, "ERR at octet 3: 01 00 00\n", ""))
-        self.assertEqual(self.ref("view", "--item", "MD5", "48", "062806010000"), (1, "", "ref: refused by 15: item absent\n"))
-        self.assertEqual(self.ref("choose", "--item", "M4E", "48", "062806010000", "032004"), (0, "M4E of the correction at octet 2: 04\n", ""))
-        self.assertEqual(self.ref("choose", "--item", "M4E", "48", "062806010000", "03200F"),
-                         (1, "", "ref: refused by 6 at octet 2 of the correction: spare bit set in a chain part or subfield\n"))
+        self.assertEqual(
+            self.ref("view", "--item", "MD5", "48", "062806010000"), (1, "", "ref: refused by 15: item absent\n")
+        )
+        self.assertEqual(
+            self.ref("choose", "--item", "M4E", "48", "062806010000", "032004"),
+            (0, "M4E of the correction at octet 2: 04\n", ""),
+        )
+        self.assertEqual(
+            self.ref("choose", "--item", "M4E", "48", "062806010000", "03200F"),
+            (1, "", "ref: refused by 6 at octet 2 of the correction: spare bit set in a chain part or subfield\n"),
+        )
 
 
-class Written(Started):
+class Written(InFolder):
     def test_edit(self):
         field = ["48", "062806010000"]
-        self.assertEqual(self.ref("edit", "--slot", "RPC,ERR", "--item", "ERR", "--to", "020000", *field), (0, "48 062806020000\n", ""))
-        self.assertEqual(self.ref("edit", *field, "--slot", "M4E", "--item", "M4E", "--remove"), (0, "48 0508010000\n", ""))
-        self.assertEqual(self.ref("edit", "--slot", "RPC", "--item", "RPC", "--to", "80 07", *field), (0, "48 0838068007010000\n", ""))
-        self.assertEqual(self.ref("edit", "--slot", "M4E,RPC", "--item", "ERR", "--to", "020000", *field), (1, "", "ref: refused by 13: item is not on the slot's list\n"))
+        self.assertEqual(
+            self.ref("edit", "--slot", "RPC,ERR", "--item", "ERR", "--to", "020000", *field),
+            (0, "48 062806020000\n", ""),
+        )
+        self.assertEqual(
+            self.ref("edit", *field, "--slot", "M4E", "--item", "M4E", "--remove"), (0, "48 0508010000\n", "")
+        )
+        self.assertEqual(
+            self.ref("edit", "--slot", "RPC", "--item", "RPC", "--to", "80 07", *field),
+            (0, "48 0838068007010000\n", ""),
+        )
+        self.assertEqual(
+            self.ref("edit", "--slot", "M4E,RPC", "--item", "ERR", "--to", "020000", *field),
+            (1, "", "ref: refused by 13: item is not on the slot's list\n"),
+        )
 
     def test_why_not(self):
-        status, told, said = self.ref("why", "--slot", "M4E,RPC", "--item", "ERR", "--to", "020000", "48", "062806010000")
+        status, told, said = self.ref(
+            "why", "--slot", "M4E,RPC", "--item", "ERR", "--to", "020000", "48", "062806010000"
+        )
         self.assertEqual((status, said), (1, ""))
-        self.assertEqual(told, "refused by 13: item is not on the slot's list\n\nThe slot is booked for M4E, RPC, and ERR is not among them.\n")
+        self.assertEqual(
+            told,
+            "refused by 13: item is not on the slot's list\n\nThe slot is booked for M4E, RPC, and ERR is not among them.\n",
+        )
         status, told, _ = self.ref("why", "--slot", "ERR", "--item", "ERR", "--to", "0200", "48", "062806010000")
         self.assertEqual((status, told.splitlines()[0]), (1, "refused by 14: new octets are not exactly one such item"))
         self.assertIn("It has 3 octets, and LEN, which is 4, leaves 2 octets for it.\n", told)
-        self.assertEqual(self.ref("why", "--slot", "ERR", "--item", "ERR", "--to", "020000", "48", "062806010000")[:2], (0, "accepted\n48 062806020000\n"))
+        self.assertEqual(
+            self.ref("why", "--slot", "ERR", "--item", "ERR", "--to", "020000", "48", "062806010000")[:2],
+            (0, "accepted\n48 062806020000\n"),
+        )
 
     def test_copy(self):
         self.assertEqual(self.ref("copy", "--withhold", "M4E,ERR", "48", "0838068007010000"), (0, "48 04108007\n", ""))
@@ -114,16 +129,22 @@ class Written(Started):
     def test_lists_of_categories(self):
         """A name must be an item of the field's own category, so that nothing stays in a copy by mistake."""
         day = self.file("48 032006\n21 030100\n")
-        self.assertEqual(self.ref("copy", "--withhold", "48=M4E", "--withhold", "21=MES", day), (0, "48 0200\n21 0200\n", ""))
+        self.assertEqual(
+            self.ref("copy", "--withhold", "48=M4E", "--withhold", "21=MES", day), (0, "48 0200\n21 0200\n", "")
+        )
         status, _, said = self.ref("copy", "--withhold", "MES", "48", "032006")
         self.assertEqual((status, said), (2, "ref: category 048 has no item 'MES'; it has MD5, M5N, M4E, RPC, ERR\n"))
         status, told, said = self.ref("copy", "--withhold", "48=M4E", day)
-        self.assertEqual((status, told, said), (2, "48 0200\n", "ref: day.txt, line 2: --withhold names no items for category 021\n"))
+        self.assertEqual(
+            (status, told, said), (2, "48 0200\n", "ref: day.txt, line 2: --withhold names no items for category 021\n")
+        )
 
     def test_write(self):
         self.assertEqual(self.ref("write", "48", "M4E=3", "ERR=65536"), (0, "48 062806010000\n", ""))
         self.assertEqual(self.ref("write", "48", "M5N.chain=2"), (0, "48 04400100\n", ""))
-        self.assertEqual(self.ref("write", "48", "M4E=4"), (1, "", "ref: refused by 10: record that no field reads to\n"))
+        self.assertEqual(
+            self.ref("write", "48", "M4E=4"), (1, "", "ref: refused by 10: record that no field reads to\n")
+        )
         self.assertEqual(self.ref("write", "49", "M4E=4")[0], 1)
         for word in ("M4E", "M4E=x", "M4E=", "M4E=2147483648"):
             self.assertEqual(self.ref("write", "48", word), (2, "", f"ref: {word!r} is no KEY=NUMBER, as ERR=65536\n"))
@@ -132,10 +153,17 @@ class Written(Started):
         sheet = reference.sheet(bytes.fromhex("30062806010000"))
         self.assertEqual(self.ref("rebuild", given=sheet), (0, "48 062806010000\n", ""))
         wrong = self.file(f"{sheet}\n{sheet.replace('M4E=3', 'M4E=4')}", "sheets.txt")
-        self.assertEqual(self.ref("rebuild", wrong), (1, "48 062806010000\n", "ref: sheets.txt, line 11: refused by 18 at line 4: text that is no sheet of a field\n"))
+        self.assertEqual(
+            self.ref("rebuild", wrong),
+            (
+                1,
+                "48 062806010000\n",
+                "ref: sheets.txt, line 11: refused by 18 at line 4: text that is no sheet of a field\n",
+            ),
+        )
 
 
-class Many(Started):
+class Many(InFolder):
     def fields(self, count):
         rng = random.Random(21)
         return [(cat, good_field(cat, rng)) for cat in (rng.choice(list(PAPERS)) for _ in range(count))]
@@ -146,32 +174,52 @@ class Many(Started):
     def test_sheets_and_back(self):
         fields = self.fields(300)
         status, told, said = self.ref("sheet", self.day(fields))
-        self.assertEqual((status, told, said), (0, "\n".join(reference.sheet(bytes([cat]) + field) for cat, field in fields), ""))
-        self.assertEqual(self.ref("rebuild", given=told), (0, "".join(f"{cat} {field.hex().upper()}\n" for cat, field in fields), ""))
+        self.assertEqual(
+            (status, told, said), (0, "\n".join(reference.sheet(bytes([cat]) + field) for cat, field in fields), "")
+        )
+        self.assertEqual(
+            self.ref("rebuild", given=told), (0, "".join(f"{cat} {field.hex().upper()}\n" for cat, field in fields), "")
+        )
 
     def test_every_command(self):
         """Each takes a file of fields, and tells of as many as it has, of the refused one too."""
         day = self.file("48 062806010000\n48 03200F\n48 032006\n")
-        options = {"edit": ["--slot", "M4E", "--item", "M4E", "--remove"], "copy": ["--withhold", "ERR"], "view": ["--item", "M4E"]}
+        options = {
+            "edit": ["--slot", "M4E", "--item", "M4E", "--remove"],
+            "copy": ["--withhold", "ERR"],
+            "view": ["--item", "M4E"],
+        }
         for command in set(COMMANDS) - {"choose", "write", "rebuild"}:
             status, told, _ = self.ref(command, "--json", *options.get(command, []), day)
             rows = [json.loads(row) for row in told.splitlines()]
             self.assertEqual((status, [row["accepted"] for row in rows]), (1, [True, False, True]), command)
             self.assertEqual([row["where"] for row in rows], ["day.txt, line 1", "day.txt, line 2", "day.txt, line 3"])
-            self.assertEqual(rows[1]["refused"], {"number": 6, "place": 2, "words": "spare bit set in a chain part or subfield"})
+            self.assertEqual(
+                rows[1]["refused"], {"number": 6, "place": 2, "words": "spare bit set in a chain part or subfield"}
+            )
         for command, line in (("choose", "48 062806010000 032004"), ("write", "48 M4E=3")):
-            told = self.ref(command, "--json", *(["--item", "M4E"] if command == "choose" else []), self.file(f"{line}\n{line}\n"))[1]
+            told = self.ref(
+                command, "--json", *(["--item", "M4E"] if command == "choose" else []), self.file(f"{line}\n{line}\n")
+            )[1]
             self.assertEqual([json.loads(row)["accepted"] for row in told.splitlines()], [True, True])
 
     def test_headings(self):
         day = self.file("48 03 20 06\n48 03200F\n")
         status, told, _ = self.ref("why", day)
-        self.assertEqual((status, told), (1, f"day.txt, line 1: 48 03 20 06\naccepted\n\nday.txt, line 2: 48 03200F\n{WHY}"))
+        self.assertEqual(
+            (status, told), (1, f"day.txt, line 1: 48 03 20 06\naccepted\n\nday.txt, line 2: 48 03200F\n{WHY}")
+        )
 
     def test_refusals_write_nothing(self):
         day = self.file("48 03200F\n48 032006\n")
-        self.assertEqual(self.ref("copy", "--withhold", "ERR", day),
-                         (1, "48 032006\n", "ref: day.txt, line 1: refused by 6 at octet 2: spare bit set in a chain part or subfield\n"))
+        self.assertEqual(
+            self.ref("copy", "--withhold", "ERR", day),
+            (
+                1,
+                "48 032006\n",
+                "ref: day.txt, line 1: refused by 6 at octet 2: spare bit set in a chain part or subfield\n",
+            ),
+        )
 
     def test_progress(self):
         """On standard error, where a run is long; the answers are as without it."""
@@ -183,11 +231,20 @@ class Many(Started):
     def test_long_progress(self):
         _, told, said = self.ref("sheet", "--json", self.file("48 0200\n" * 20001))
         self.assertEqual(told.count("\n"), 20001)
-        self.assertEqual(said, "ref: 10,000 asked, 0 refused\nref: 20,000 asked, 0 refused\nref: 20,001 asked, 0 refused, all answered\n")
+        self.assertEqual(
+            said,
+            "ref: 10,000 asked, 0 refused\nref: 20,000 asked, 0 refused\nref: 20,001 asked, 0 refused, all answered\n",
+        )
 
     def test_streams(self):
         """Each line is answered before the next one comes, so that a recorder can be listened to."""
-        with subprocess.Popen([str(REF), "copy", "--withhold", "", "-"], stdin=subprocess.PIPE, stdout=subprocess.PIPE, text=True, env=ENVIRONMENT) as ref:
+        with subprocess.Popen(
+            [str(REF), "copy", "--withhold", "", "-"],
+            stdin=subprocess.PIPE,
+            stdout=subprocess.PIPE,
+            text=True,
+            env=ENVIRONMENT,
+        ) as ref:
             ref.stdin.write("48 0200\n")
             ref.stdin.flush()
             self.assertEqual(ref.stdout.readline(), "48 0200\n")
@@ -195,26 +252,64 @@ class Many(Started):
             self.assertEqual(ref.wait(), 0)
 
 
-class Json(Started):
+class Json(InFolder):
     def told(self, *words):
         return json.loads(self.ref(*words)[1])
 
     def test_by_hand(self):
-        self.assertEqual(self.told("sheet", "--json", "48", "062806010000"),
-                         {"accepted": True, "cat": 48, "field": "062806010000", "len": 6, "items": ["M4E", "ERR"], "numbers": {"M4E": 3, "ERR": 65536}})
-        self.assertEqual(self.told("sheet", "--json", "21", "04800FFF")["numbers"], {"BPS": 4095, "BPS.tenths": 12095, "BPS.sense": "atleast"})
-        self.assertEqual(self.told("read", "--json", "21", "04800FFF")["numbers"], [{"key": "BPS", "number": 4095, "value": 1209.5, "unit": "hPa", "sense": "atleast"}])
+        self.assertEqual(
+            self.told("sheet", "--json", "48", "062806010000"),
+            {
+                "accepted": True,
+                "cat": 48,
+                "field": "062806010000",
+                "len": 6,
+                "items": ["M4E", "ERR"],
+                "numbers": {"M4E": 3, "ERR": 65536},
+            },
+        )
+        self.assertEqual(
+            self.told("sheet", "--json", "21", "04800FFF")["numbers"],
+            {"BPS": 4095, "BPS.tenths": 12095, "BPS.sense": "atleast"},
+        )
+        self.assertEqual(
+            self.told("read", "--json", "21", "04800FFF")["numbers"],
+            [{"key": "BPS", "number": 4095, "value": 1209.5, "unit": "hPa", "sense": "atleast"}],
+        )
         self.assertEqual(self.told("read", "--json", "48", "04400100")["items"], [{"name": "M5N", "parts": 2}])
-        self.assertEqual(self.told("edit", "--json", "--slot", "ERR", "--item", "ERR", "--to", "020000", "48", "062806010000"),
-                         {"accepted": True, "cat": 48, "field": "062806010000", "result": "062806020000"})
-        self.assertEqual(self.told("map", "--json", "48", "048004FF")["lines"][1],
-                         {"at": 3, "octets": "FF", "item": "MD5", "line": "TOS", "runs": [{"hi": 8, "lo": 1, "bits": "11111111", "kind": "number", "key": "MD5.TOS",
-                                                                                           "number": -1, "value": -0.0078125, "unit": "s", "sense": "equal"}]})
+        self.assertEqual(
+            self.told("edit", "--json", "--slot", "ERR", "--item", "ERR", "--to", "020000", "48", "062806010000"),
+            {"accepted": True, "cat": 48, "field": "062806010000", "result": "062806020000"},
+        )
+        self.assertEqual(
+            self.told("map", "--json", "48", "048004FF")["lines"][1],
+            {
+                "at": 3,
+                "octets": "FF",
+                "item": "MD5",
+                "line": "TOS",
+                "runs": [
+                    {
+                        "hi": 8,
+                        "lo": 1,
+                        "bits": "11111111",
+                        "kind": "number",
+                        "key": "MD5.TOS",
+                        "number": -1,
+                        "value": -0.0078125,
+                        "unit": "s",
+                        "sense": "equal",
+                    }
+                ],
+            },
+        )
         why = self.told("why", "--json", "48", "03200F")
-        self.assertEqual((why["refused"]["number"], why["why"]["may_be"], why["why"]["mended"]), (6, "00000xx0", "032006"))
+        self.assertEqual(
+            (why["refused"]["number"], why["why"]["may_be"], why["why"]["mended"]), (6, "00000xx0", "032006")
+        )
 
 
-class OneLine(Started):
+class OneLine(InFolder):
     """What can't be asked is told in one line, with status 2, and nothing is printed."""
 
     def said(self, words, wanted, **env):
@@ -226,9 +321,14 @@ class OneLine(Started):
         self.said(["sheet", "48", "06 2G"], "'G' in '06 2G' is no hex digit")
         self.said(["sheet", "48", "062"], "'062' has 3 hex digits, and an octet is two")
         self.said(["sheet", "48", "02" * 300], "a field has at most 255 octets, and these are 300")
-        self.said(["edit", "--slot", "ERR", "--item", "ERR", "--to", "00" * 254, "48", "0200"], "an item has at most 253 octets, and these are 254")
+        self.said(
+            ["edit", "--slot", "ERR", "--item", "ERR", "--to", "00" * 254, "48", "0200"],
+            "an item has at most 253 octets, and these are 254",
+        )
         self.said(["view", "--item", "ERRR", "48", "0200"], "no category has an item 'ERRR'")
-        self.said(["view", "--item", "BPS", "48", "0200"], "category 048 has no item 'BPS'; it has MD5, M5N, M4E, RPC, ERR")
+        self.said(
+            ["view", "--item", "BPS", "48", "0200"], "category 048 has no item 'BPS'; it has MD5, M5N, M4E, RPC, ERR"
+        )
         self.said(["edit", "--slot", "RCP", "--item", "ERR", "--remove", "48", "0200"], "no category has an item 'RCP'")
         self.said(["write", "48", "ERR.X=1"], "category 048 has no number 'ERR.X'")
         self.said(["sheet", "300", "0200"], "'300' is no category")
@@ -241,21 +341,39 @@ class OneLine(Started):
         self.said(["list"], "invalid choice: 'list'")
         self.said(["view", "48", "0200"], "the following arguments are required: --item (ref view --help says more)")
         self.said(["sheet", "--loud", "48", "0200"], "unrecognized arguments: --loud")
-        self.said(["edit", "--slot", "ERR", "--item", "ERR", "48", "0200"], "an edit has --slot, --item, and one of --to and --remove")
-        self.said(["edit", "--slot", "ERR", "--item", "ERR", "--remove", "--to", "00", "48", "0200"], "one of --to and --remove")
+        self.said(
+            ["edit", "--slot", "ERR", "--item", "ERR", "48", "0200"],
+            "an edit has --slot, --item, and one of --to and --remove",
+        )
+        self.said(
+            ["edit", "--slot", "ERR", "--item", "ERR", "--remove", "--to", "00", "48", "0200"],
+            "one of --to and --remove",
+        )
         self.said(["why", "--item", "ERR", "--remove", "48", "0200"], "an edit has --slot")
         self.said(["why", "--slot", "ERR", "48", "0200"], "an edit has --slot")
-        self.said(["page", "--out", "no/such/folder.html", "48", "0200"], "no/such/folder.html can't be written: No such file or directory")
+        self.said(
+            ["page", "--out", "no/such/folder.html", "48", "0200"],
+            "no/such/folder.html can't be written: No such file or directory",
+        )
+
+    def test_no_page_is_begun(self):
+        self.said(["page", "48", "0G"], "is no hex digit")
+        before = self.folder / self.file("another page", "page.html")
+        self.said(["page", "--out", "page.html", "48", "0G"], "is no hex digit")
+        self.assertEqual(before.read_text(), "another page")
 
     def test_program(self):
-        self.said(["sheet", "--program", "/nowhere/refdesk", "48", "0200"], "/nowhere/refdesk can't be started: No such file or directory")
+        self.said(
+            ["sheet", "--program", "/nowhere/refdesk", "48", "0200"],
+            "/nowhere/refdesk can't be started: No such file or directory",
+        )
         self.said(["sheet", "48", "0200"], "/nowhere/refdesk can't be started", REFDESK="/nowhere/refdesk")
         ends = self.file(f"#!{sys.executable}\n", "ends")
         (self.folder / ends).chmod(0o755)
         self.said(["sheet", "--program", f"./{ends}", "48", "0200"], "ended without an answer")
 
 
-class Terminal(Started):
+class Terminal(InFolder):
     def on_terminal(self, *words, **env):
         """What a person sees."""
         pid, fd = pty.fork()
@@ -299,13 +417,21 @@ class Terminal(Started):
 
     def test_reader_that_goes_away(self):
         self.file("48 0200\n" * 5000)
-        ended = subprocess.run(["bash", "-c", f"'{REF}' sheet day.txt | head -n 1; echo ${{PIPESTATUS[0]}}"], cwd=self.folder, capture_output=True, text=True, timeout=60, env=ENVIRONMENT)
+        ended = subprocess.run(
+            ["bash", "-c", f"'{REF}' sheet day.txt | head -n 1; echo ${{PIPESTATUS[0]}}"],
+            cwd=self.folder,
+            capture_output=True,
+            text=True,
+            timeout=60,
+            env=ENVIRONMENT,
+        )
         self.assertEqual((ended.stdout, ended.stderr), ("cat=48\n141\n", ""))
 
 
-class Help(Started):
+class Help(InFolder):
     def test_examples(self):
-        """Each example of the help does what the help says; the fields in them are accepted, but for those that ask why."""
+        """Each example of the help does what the help says; the fields in them are accepted, but for those that ask
+        why."""
         self.file("48 062806010000\n21 030100\n")
         self.file(reference.sheet(bytes.fromhex("30062806010000")), "sheet.txt")
         for name, command in COMMANDS.items():
@@ -313,7 +439,13 @@ class Help(Started):
             self.assertEqual(status, 0)
             for example in command.examples:
                 self.assertIn(f"  {example}\n", told)
-                ended = subprocess.run(["sh", "-euc", example], cwd=self.folder, capture_output=True, text=True, env={**ENVIRONMENT, "PATH": f"{REF.parent}:{os.environ['PATH']}"})
+                ended = subprocess.run(
+                    ["sh", "-euc", example],
+                    cwd=self.folder,
+                    capture_output=True,
+                    text=True,
+                    env={**ENVIRONMENT, "PATH": f"{REF.parent}:{os.environ['PATH']}"},
+                )
                 self.assertEqual((ended.returncode, ended.stderr), (1 if name == "why" else 0, ""), example)
 
     def test_top(self):

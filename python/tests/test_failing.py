@@ -1,29 +1,25 @@
-"""A desk whose program is missing, is killed, ends within an answer or answers something else: none of it is taken for an answer, and nothing hangs."""
+"""A desk whose program is missing, is killed, ends within an answer or answers something else: none of it is taken
+for an answer, and nothing hangs."""
 import os
 import signal
 import stat
 import sys
-import tempfile
 import threading
 import unittest
-from pathlib import Path
 from unittest import mock
 
 from paltinoma import Desk, DeskFailed, DeskMissing, Refused, slot
 
-BASE = bytes.fromhex("062806010000")
+from tests.given import BASE, InFolder
 
 
-class Failing(unittest.TestCase):
-    def setUp(self):
-        folder = tempfile.TemporaryDirectory()
-        self.addCleanup(folder.cleanup)
-        self.folder = Path(folder.name)
-
+class Failing(InFolder):
     def program(self, lines):
         """A program in Python in the place of refdesk; as that, it ends where nobody reads its answers."""
         path = self.folder / "refdesk"
-        path.write_text(f"#!{sys.executable}\nimport signal, sys, time\nsignal.signal(signal.SIGPIPE, signal.SIG_DFL)\n{lines}\n")
+        path.write_text(
+            f"#!{sys.executable}\nimport signal, sys, time\nsignal.signal(signal.SIGPIPE, signal.SIG_DFL)\n{lines}\n"
+        )
         path.chmod(path.stat().st_mode | stat.S_IXUSR)
         return path
 
@@ -39,7 +35,9 @@ class Failing(unittest.TestCase):
         self.assertRaises(DeskMissing, Desk, unrunnable)
 
     def test_not_built(self):
-        with mock.patch.dict(os.environ, {"PATH": str(self.folder)}), mock.patch("paltinoma.HERE", self.folder / "python"):
+        with mock.patch.dict(os.environ, {"PATH": str(self.folder)}), mock.patch(
+            "paltinoma.HERE", self.folder / "python"
+        ):
             os.environ.pop("REFDESK", None)
             with self.assertRaisesRegex(DeskMissing, "refdesk is not built yet: `make` in"):
                 Desk()
@@ -74,20 +72,41 @@ class Failing(unittest.TestCase):
             self.assertRaises(DeskFailed, desk.read, 48, BASE)
 
     def test_other_answers(self):
-        for answer in ("bad-request 3\n", "\n", "ok\n", "ok 0G\n", "ok 012\n", "ok 00 00\n", "refused\n", "refused 13\n", "refused 13 0 0 0\n", "refused x 0\n", "refused 13 0 3\n", "ok \xff\n"):
+        for answer in (
+            "bad-request 3\n",
+            "\n",
+            "ok\n",
+            "ok 0G\n",
+            "ok 012\n",
+            "ok 00 00\n",
+            "refused\n",
+            "refused 13\n",
+            "refused 13 0 0 0\n",
+            "refused x 0\n",
+            "refused 13 0 3\n",
+            "refused 13 0 -1\n",
+            "refused 16 0\n",
+            "ok \xff\n",
+        ):
             with Desk(self.answering(answer)) as desk:
                 with self.assertRaisesRegex(DeskFailed, "gave no answer to remove", msg=answer):
                     desk.remove(48, BASE, slot("ERR"), "ERR")
                 self.assertRaises(DeskFailed, desk.remove, 48, BASE, slot("ERR"), "ERR")
 
     def test_answers_of_another_form(self):
-        for answer, ask in (("ok 3 3 0100\n", lambda desk: desk.view(48, BASE, "ERR")), ("ok 3 48 32\n", lambda desk: desk.read(48, BASE)),
-                            ("ok 3 3 3 3 010000\n", lambda desk: desk.choose(48, BASE, BASE, "ERR")), ("ok 062806010000\n", lambda desk: desk.rebuild("x"))):
+        for answer, ask in (
+            ("ok 3 3 0100\n", lambda desk: desk.view(48, BASE, "ERR")),
+            ("ok 3 48 32\n", lambda desk: desk.read(48, BASE)),
+            ("ok 3 3 3 010000\n", lambda desk: desk.choose(48, BASE, BASE, "ERR")),
+            ("ok 0 3 3 010000\n", lambda desk: desk.choose(48, BASE, BASE, "ERR")),
+            ("ok 062806010000\n", lambda desk: desk.rebuild("x")),
+        ):
             with Desk(self.answering(answer)) as desk:
                 self.assertRaises(DeskFailed, ask, desk)
 
     def test_interrupted(self):
         """An answer that comes after the interruption is not taken for the next one's."""
+
         class Stopped(BaseException):
             pass
 

@@ -19,7 +19,10 @@ class Layouts(unittest.TestCase):
         """Its octets, the bits and kinds of its numbers, its spare bits."""
         numbers = [run for run in line.runs if run.slot is not None]
         self.assertEqual((line.octets, line.chain), (octets, chain))
-        self.assertEqual([(run.hi, run.lo, KINDS[run.signed, run.limits]) for run in numbers], [tuple(number[1:]) for number in defined])
+        self.assertEqual(
+            [(run.hi, run.lo, KINDS[run.signed, run.limits]) for run in numbers],
+            [tuple(number[1:]) for number in defined],
+        )
         self.assertEqual(bits_of(run for run in line.runs if run.slot is None), spare_bits(octets, defined, chain))
 
     def test_lines(self):
@@ -29,21 +32,31 @@ class Layouts(unittest.TestCase):
                 self.assertEqual((item.section, len(item.lines)), (SECTIONS[cat][name], len(parts) + len(subs)))
                 for line, (octets, defined) in zip(item.lines, parts):
                     self.line(line, octets, defined, True)
-                for line, (sub, octets, defined) in zip(item.lines[len(parts):], subs):
+                for line, (sub, octets, defined) in zip(item.lines[len(parts) :], subs):
                     self.assertEqual(line.name, sub)
                     self.line(line, octets, defined, False)
 
     def test_indicators(self):
         for cat, flags in INDICATORS.items():
             items = CATEGORIES[cat].items
-            self.assertEqual([(item.name, item.bit) for item in items], [(name, 1 << hi - 1) for name, hi, _, _ in flags])
+            self.assertEqual(
+                [(item.name, item.bit) for item in items], [(name, 1 << hi - 1) for name, hi, _, _ in flags]
+            )
             self.assertEqual(bits_of(CATEGORIES[cat].spare), spare_bits(1, flags, False))
 
     def test_keys_and_slots(self):
         for cat, items in PAPERS.items():
-            runs = [run for item in CATEGORIES[cat].items for line in item.lines for run in line.runs if run.slot is not None]
+            runs = [
+                run
+                for item in CATEGORIES[cat].items
+                for line in item.lines
+                for run in line.runs
+                if run.slot is not None
+            ]
             self.assertEqual([run.slot for run in runs], list(range(len(runs))))
-            self.assertEqual([None if run.flag else run.key for run in runs], [key for item in items for key in keys(item)])
+            self.assertEqual(
+                [None if run.flag else run.key for run in runs], [key for item in items for key in keys(item)]
+            )
 
     def test_flags(self):
         """Each subfield of an item with a chain has the flag in its turn; no other line has one."""
@@ -60,22 +73,35 @@ class Layouts(unittest.TestCase):
     def test_units(self):
         """What one number more is in its unit, and what 0 is."""
         for cat, category in CATEGORIES.items():
-            for run in (run for item in category.items for line in item.lines for run in line.runs if run.key and not run.flag):
+            for run in (
+                run for item in category.items for line in item.lines for run in line.runs if run.key and not run.flag
+            ):
                 times, over, unit, start = MEASURES.get((cat, run.key), (0, 1, "", 0))
                 if times and run.key not in FLAGS_AND_CODES:
                     self.assertEqual(Number(3, run).value, start + 3 * Fraction(times, over), run.key)
                     self.assertEqual(Number(3, run).unit, unit)
                 else:
-                    self.assertEqual((Number(3, run).value, Number(3, run).unit, str(Number(3, run))), (None, "", "3"), run.key)
+                    self.assertEqual(
+                        (Number(3, run).value, Number(3, run).unit, str(Number(3, run))), (None, "", "3"), run.key
+                    )
 
     def test_values_in_words(self):
         """By hand, from the LSBs of the papers: 1/256 NM, 180/2^23 degrees, 25 ft, 0.1 hPa from 800, 1/128 s."""
         rows = [
-            (48, "ERR", 65536, "256 NM"), (48, "ERR", 1, "0.00390625 NM"), (48, "MD5.POS.LAT", -4194304, "-90 degrees"),
-            (48, "MD5.POS.LAT", 1, "about 0.000021 degrees"), (48, "MD5.POS.LON", -16384, "-0.3515625 degrees"),
-            (48, "MD5.POS.LON", -8388607, "about -179.999979 degrees"), (48, "MD5.GA.GA", -40, "-1000 ft"), (48, "MD5.TOS", -1, "-0.0078125 s"),
-            (21, "BPS", 0, "800 hPa or less"), (21, "BPS", 1, "800.1 hPa"), (21, "BPS", 4094, "1209.4 hPa"), (21, "BPS", 4095, "1209.5 hPa or more"),
-            (48, "M4E", 3, "3"), (7, "TA.TAmin", -8192, "-204800 ft"),
+            (48, "ERR", 65536, "256 NM"),
+            (48, "ERR", 1, "0.00390625 NM"),
+            (48, "MD5.POS.LAT", -4194304, "-90 degrees"),
+            (48, "MD5.POS.LAT", 1, "about 0.000021 degrees"),
+            (48, "MD5.POS.LON", -16384, "-0.3515625 degrees"),
+            (48, "MD5.POS.LON", -8388607, "about -179.999979 degrees"),
+            (48, "MD5.GA.GA", -40, "-1000 ft"),
+            (48, "MD5.TOS", -1, "-0.0078125 s"),
+            (21, "BPS", 0, "800 hPa or less"),
+            (21, "BPS", 1, "800.1 hPa"),
+            (21, "BPS", 4094, "1209.4 hPa"),
+            (21, "BPS", 4095, "1209.5 hPa or more"),
+            (48, "M4E", 3, "3"),
+            (7, "TA.TAmin", -8192, "-204800 ft"),
         ]
         for cat, key, number, words in rows:
             self.assertEqual(str(Number(number, CATEGORIES[cat].number_at(key)[2])), words)

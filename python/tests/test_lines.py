@@ -1,45 +1,51 @@
-"""What `ref` takes for a line: hex with and without spaces, files, standard input; and what it says of the rest, in one line."""
+"""What `ref` takes for a line: hex with and without spaces, files, standard input; and what it says of the rest, in
+one line."""
 import os
-import tempfile
 import unittest
 from pathlib import Path
 
 from ref.lines import Line, Usage, lines, texts
 
+from tests.given import InFolder
 
-class InFolder(unittest.TestCase):
+
+class Here(InFolder):
+    """The folder is the one that names of files are of."""
+
     def setUp(self):
-        folder = tempfile.TemporaryDirectory()
-        self.addCleanup(folder.cleanup)
+        super().setUp()
         self.addCleanup(os.chdir, os.getcwd())
-        os.chdir(folder.name)
-
-    def file(self, name, text):
-        Path(name).write_text(text)
-        return name
+        os.chdir(self.folder)
 
 
-class Lines(InFolder):
+class Lines(Here):
     def fields(self, *words):
         return [(line.cat(), line.field().hex()) for line in lines(list(words))]
 
     def test_words(self):
-        for words in (["48", "062806010000"], ["48", "06 28 06 01 00 00"], ["48", "06", "28", "06", "01", "00", "00"], ["048", "0628 0601", "0000"]):
+        for words in (
+            ["48", "062806010000"],
+            ["48", "06 28 06 01 00 00"],
+            ["48", "06", "28", "06", "01", "00", "00"],
+            ["048", "0628 0601", "0000"],
+        ):
             self.assertEqual(self.fields(*words), [(48, "062806010000")])
         self.assertEqual(self.fields("7", "aBcD"), [(7, "abcd")])
         self.assertEqual(self.fields("48", ""), [(48, "")])
 
     def test_files(self):
-        name = self.file("day.txt", "# a day\n48 0200\n\n  21 03 01 00\r\n007 -\n")
+        name = self.file("# a day\n48 0200\n\n  21 03 01 00\r\n007 -\n")
         self.assertEqual(self.fields(name), [(48, "0200"), (21, "030100"), (7, "")])
         self.assertEqual(self.fields(name, name), 2 * self.fields(name))
-        self.assertEqual([line.where for line in lines([name])], ["day.txt, line 2", "day.txt, line 4", "day.txt, line 5"])
+        self.assertEqual(
+            [line.where for line in lines([name])], ["day.txt, line 2", "day.txt, line 4", "day.txt, line 5"]
+        )
 
     def test_files_of_one_category(self):
-        self.assertEqual(self.fields("21", self.file("day.txt", "0200\n03 01 00\n")), [(21, "0200"), (21, "030100")])
+        self.assertEqual(self.fields("21", self.file("0200\n03 01 00\n")), [(21, "0200"), (21, "030100")])
 
     def test_hex_is_no_file(self):
-        self.file("beef", "0200\n")
+        self.file("0200\n", "beef")
         self.assertEqual(self.fields("48", "beef"), [(48, "beef")])
         self.assertEqual(self.fields("48", "./beef"), [(48, "0200")])
 
@@ -50,10 +56,19 @@ class Lines(InFolder):
             (["48", "02" * 300], "a field has at most 255 octets, and these are 300"),
             (["48"], "no octets stand behind the category; '-' stands for none"),
             (["256", "0200"], "'256' is no category; one is a number from 0 to 255, as 48"),
-            (["nowhere"], "nowhere can't be read: No such file or directory; a field is given as a category and its octets, as 48 062806010000"),
+            (
+                ["nowhere"],
+                "nowhere can't be read: No such file or directory; a field is given as a category and its octets, as 48 062806010000",
+            ),
             (["."], ". can't be read: Is a directory"),
-            ([self.file("day.txt", "48 0200\nx 0200\n")], "day.txt, line 2: 'x' is no category; one is a number from 0 to 255, as 48"),
-            ([self.file("night.txt", "48 0200\n48 020\n")], "night.txt, line 2: '020' has 3 hex digits, and an octet is two"),
+            (
+                [self.file("48 0200\nx 0200\n")],
+                "day.txt, line 2: 'x' is no category; one is a number from 0 to 255, as 48",
+            ),
+            (
+                [self.file("48 0200\n48 020\n", "night.txt")],
+                "night.txt, line 2: '020' has 3 hex digits, and an octet is two",
+            ),
         ]
         for words, said in rows:
             with self.assertRaises(Usage) as caught:
@@ -64,14 +79,14 @@ class Lines(InFolder):
         self.assertEqual(len(Line("", ["48", "00" * 255]).field()), 255)
 
 
-class Texts(InFolder):
+class Texts(Here):
     def test_one_is_taken_as_it_is(self):
         for text in ("a=1\nend=ok\n", "a=1\r\nend=ok\r\n", "a=1", ""):
             Path("sheet.txt").write_bytes(text.encode())
             self.assertEqual(list(texts(["sheet.txt"])), [("sheet.txt", 1, text)])
 
     def test_many(self):
-        found = list(texts([self.file("sheets.txt", "a=1\nb=2\n\nc=3\n\nd=4")]))
+        found = list(texts([self.file("a=1\nb=2\n\nc=3\n\nd=4", "sheets.txt")]))
         self.assertEqual(found, [("sheets.txt", 1, "a=1\nb=2\n"), ("sheets.txt", 4, "c=3\n"), ("sheets.txt", 6, "d=4")])
 
 

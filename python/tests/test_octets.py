@@ -1,29 +1,33 @@
-"""The octet map, against tests/papers.py and tests/reference.py: every octet once, every bit with its number or spare, of accepted and of refused fields."""
+"""The octet map, against tests/papers.py and tests/reference.py: every octet once, every bit with its number or
+spare, of accepted and of refused fields."""
 import random
 import unittest
 
 import reference
 from drive import damaged
 from fields import good_field
-from paltinoma import Desk, Refused
+from paltinoma import Refused
 from papers import PAPERS
 from reads import BAD_FIELDS
 from ref.answers import line_data
 from ref.octets import read_lines, rows
 
+from tests.given import WithDesk
+
 SEEDED = 1500
 
 
 def lines_in(cat, field):
-    """(item, part or subfield, octets, numbers, whether it is a part) of each line that a field has, by the papers; the field is accepted."""
+    """(item, part or subfield, octets, numbers, whether it is a part) of each line that a field has, by the papers;
+    the field is accepted."""
     _, _, (_, indicator, counts, numbers) = reference.read(cat, field)
     at = 0
     for i, item in enumerate(PAPERS[cat]):
         name, parts, subs = item
-        own, at = numbers[at:at + reference.size(item)], at + reference.size(item)
+        own, at = numbers[at : at + reference.size(item)], at + reference.size(item)
         if not indicator >> 7 - i & 1:
             continue
-        for k, (octets, defined) in enumerate(parts[:counts[i]]):
+        for k, (octets, defined) in enumerate(parts[: counts[i]]):
             yield name, f"part {k + 1}", octets, defined, True
         for k, (sub, octets, defined) in enumerate(subs):
             if not parts or own[k] == 1:
@@ -36,15 +40,7 @@ def bit_kinds(octets, defined, chain):
     return ["FX" if chain and bit == 1 else kinds.get(bit) for bit in range(8 * octets, 0, -1)]
 
 
-class Maps(unittest.TestCase):
-    @classmethod
-    def setUpClass(cls):
-        cls.desk = Desk()
-
-    @classmethod
-    def tearDownClass(cls):
-        cls.desk.close()
-
+class Maps(WithDesk):
     def asked(self, cat, field):
         try:
             return self.desk.read(cat, field), None
@@ -57,7 +53,9 @@ class Maps(unittest.TestCase):
             cat = rng.choice([48, 21, 7])
             field = good_field(cat, rng)
             way = rng.randrange(4)
-            yield cat, damaged(rng, field) if way == 0 else bytes.fromhex(rng.choice(BAD_FIELDS[cat])) if way == 1 else field
+            yield cat, damaged(rng, field) if way == 0 else bytes.fromhex(
+                rng.choice(BAD_FIELDS[cat])
+            ) if way == 1 else field
 
     def every_octet_once(self, field, found):
         """In order, as hex and as bits; the bits of an octet are told apart by its rows."""
@@ -74,7 +72,8 @@ class Maps(unittest.TestCase):
             self.every_octet_once(field, rows(cat, field, record, refused))
 
     def test_accepted(self):
-        """Each line where the papers have it, its bits with the numbers that they are of, and each number with its key as on the sheet."""
+        """Each line where the papers have it, its bits with the numbers that they are of, and each number with its
+        key as on the sheet."""
         for cat, field in self.fields(SEEDED):
             record, refused = self.asked(cat, field)
             if refused:
@@ -83,7 +82,7 @@ class Maps(unittest.TestCase):
             wanted, at = list(lines_in(cat, field)), 2
             self.assertEqual([(line["item"], line["line"]) for line in got], [row[:2] for row in wanted])
             for line, (_, _, octets, defined, chain) in zip(got, wanted):
-                self.assertEqual((line["at"], line["octets"]), (at, field[at:at + octets].hex().upper()))
+                self.assertEqual((line["at"], line["octets"]), (at, field[at : at + octets].hex().upper()))
                 self.line(line, octets, defined, chain)
                 at += octets
             self.assertEqual(at, field[0])
@@ -103,7 +102,8 @@ class Maps(unittest.TestCase):
             self.assertEqual(numbers, [reference.value_of(number, whole) for number in defined])
 
     def test_refused(self):
-        """The lines before the place are those of the papers, and the last one stands at the place where 5, 6, 7 or 8 are given."""
+        """The lines before the place are those of the papers, and the last one stands at the place where 5, 6, 7 or 8
+        are given."""
         for cat, field in self.fields(SEEDED):
             _, refused = self.asked(cat, field)
             if refused is None:
@@ -124,12 +124,26 @@ class Maps(unittest.TestCase):
         field = bytes.fromhex("054001801F")
         found = rows(48, field, *self.asked(48, field))
         told = [(row.at, row.shown, row.name, row.bits, row.text) for row in found]
-        self.assertEqual(told[:3], [(0, "00000101", "LEN", "", "5 octets"), (1, "01000...", "indicator", "bits 8/4", "M5N"), (1, ".....000", "", "bits 3/1", "spare")])
+        self.assertEqual(
+            told[:3],
+            [
+                (0, "00000101", "LEN", "", "5 octets"),
+                (1, "01000...", "indicator", "bits 8/4", "M5N"),
+                (1, ".....000", "", "bits 3/1", "spare"),
+            ],
+        )
         self.assertEqual(told[3], (2, "0.......", "M5N part 1", "bit 8", "M5N.SUM is absent"))
         self.assertEqual(told[10], (2, ".......1", "", "bit 1", "FX = 1, another part follows"))
-        self.assertEqual(told[11:], [(3, "1.......", "M5N part 2", "bit 8", "M5N.FOM is there"), (3, ".000000.", "", "bits 7/2", "spare"),
-                                     (3, ".......0", "", "bit 1", "FX = 0, the last part"), (4, "000.....", "M5N FOM", "bits 8/6", "spare"),
-                                     (4, "...11111", "", "bits 5/1", "M5N.FOM = 31")])
+        self.assertEqual(
+            told[11:],
+            [
+                (3, "1.......", "M5N part 2", "bit 8", "M5N.FOM is there"),
+                (3, ".000000.", "", "bits 7/2", "spare"),
+                (3, ".......0", "", "bit 1", "FX = 0, the last part"),
+                (4, "000.....", "M5N FOM", "bits 8/6", "spare"),
+                (4, "...11111", "", "bits 5/1", "M5N.FOM = 31"),
+            ],
+        )
 
     def test_refused_by_hand(self):
         for cat, octets, row in (

@@ -1,21 +1,19 @@
-"""`ref page`: one file without scripts and without anything from elsewhere, whose text has the sheet and the map; in a browser too, where one is installed."""
+"""`ref page`: one file without scripts and without anything from elsewhere, whose text has the sheet and the map; in
+a browser too, where one is installed."""
 import os
 import random
 import re
 import shutil
 import subprocess
-import tempfile
 import unittest
 from html.parser import HTMLParser
-from pathlib import Path
 
 import reference
 from fields import full_field, good_field
 from sheets import widest
 
-from tests import ROOT
+from tests.given import InFolder
 
-REF = ROOT / "bin" / "ref"
 CHROMIUM = shutil.which("chromium")
 ALONE = {"meta", "br", "hr", "link", "img", "input", "wbr"}  # tags without an end
 
@@ -59,33 +57,29 @@ def in_turn(wanted, cells):
     return all(any(cell.strip() == one for cell in rest) for one in wanted)
 
 
-class Pages(unittest.TestCase):
+class Pages(InFolder):
     """Pages of a day's fields."""
 
-    def setUp(self):
-        folder = tempfile.TemporaryDirectory()
-        self.addCleanup(folder.cleanup)
-        self.folder = Path(folder.name)
-
     def page(self, *words, status=0):
-        path = self.folder / "page.html"
-        ended = subprocess.run([str(REF), "page", "--out", str(path), *words], capture_output=True, text=True, cwd=self.folder)
-        self.assertEqual((ended.returncode, ended.stdout, ended.stderr), (status, "", ""))
-        return path.read_text(encoding="utf-8")
+        self.assertEqual(self.ref("page", "--out", "page.html", *words), (status, "", ""))
+        return (self.folder / "page.html").read_text(encoding="utf-8")
 
     def day(self, fields, name="day.txt"):
-        (self.folder / name).write_text("".join(f"{cat} {field.hex()}\n" for cat, field in fields))
-        return name
+        return self.file("".join(f"{cat} {field.hex()}\n" for cat, field in fields), name)
 
     def fields(self):
         rng = random.Random(9)
-        return [(cat, full_field(cat, widest)) for cat in (48, 21, 7)] + [(cat, good_field(cat, rng)) for cat in (48, 21, 7) for _ in range(5)]
+        return [(cat, full_field(cat, widest)) for cat in (48, 21, 7)] + [
+            (cat, good_field(cat, rng)) for cat in (48, 21, 7) for _ in range(5)
+        ]
 
     def has_sheets(self, fields, cells):
         """Every line of every sheet, key and value in two cells, in turn."""
         for cat, field in fields:
             lines = reference.sheet(bytes([cat]) + field).splitlines()
-            self.assertTrue(in_turn([part.strip() for line in lines for part in line.split("=")], cells), (cat, field.hex()))
+            self.assertTrue(
+                in_turn([part.strip() for line in lines for part in line.split("=")], cells), (cat, field.hex())
+            )
 
 
 class AsText(Pages):
@@ -93,7 +87,10 @@ class AsText(Pages):
         html = self.page(self.day(self.fields()))
         page = Page(html)
         self.assertFalse(page.tags & {"script", "link", "img", "iframe", "object", "embed", "form", "base"})
-        self.assertFalse(page.attributes & {"src", "href", "srcset", "style", "action"} | {name for name in page.attributes if name.startswith("on")})
+        self.assertFalse(
+            page.attributes & {"src", "href", "srcset", "style", "action"}
+            | {name for name in page.attributes if name.startswith("on")}
+        )
         self.assertNotRegex(html, r"https?:|@import|url\(|//")
         self.assertIn('<meta name="viewport" content="width=device-width, initial-scale=1">', html)
         self.assertIn("@media print", html)
@@ -103,13 +100,44 @@ class AsText(Pages):
         cells = Page(self.page(self.day(fields))).cells
         self.has_sheets(fields, cells)
         told = Page(self.page("48", "062806010000")).cells
-        self.assertTrue(in_turn(["Category 048, edition 1.9 (document 000)", "06 28 06 01 00 00", "ERR", "65536", "256 NM", "M4E part 1 000, 2.5", "2", "06", "00000...",
-                                 "bits 8/4: spare", ".....11.", "bits 3/2: M4E = 3", "ERR 000, 2.7", "bits 24/1: ERR = 65536, 256 NM"], told), told)
+        self.assertTrue(
+            in_turn(
+                [
+                    "Category 048, edition 1.9 (document 000)",
+                    "06 28 06 01 00 00",
+                    "ERR",
+                    "65536",
+                    "256 NM",
+                    "M4E part 1 000, 2.5",
+                    "2",
+                    "06",
+                    "00000...",
+                    "bits 8/4: spare",
+                    ".....11.",
+                    "bits 3/2: M4E = 3",
+                    "ERR 000, 2.7",
+                    "bits 24/1: ERR = 65536, 256 NM",
+                ],
+                told,
+            ),
+            told,
+        )
 
     def test_refused(self):
         cells = Page(self.page("48", "03200F", status=1)).cells
-        self.assertTrue(in_turn(["03 20 0F", "Refused by 6 at octet 2: spare bit set in a chain part or subfield", "Bit 4 is spare and must be 0.",
-                                 "With 06 at octet 2 the field is accepted.", "bits 8/4: spare, must be 0"], cells), cells)
+        self.assertTrue(
+            in_turn(
+                [
+                    "03 20 0F",
+                    "Refused by 6 at octet 2: spare bit set in a chain part or subfield",
+                    "Bit 4 is spare and must be 0.",
+                    "With 06 at octet 2 the field is accepted.",
+                    "bits 8/4: spare, must be 0",
+                ],
+                cells,
+            ),
+            cells,
+        )
         for octets in ("", "05", "0280", "060801000000", "0101"):
             Page(self.page("48", octets, status=1))
         Page(self.page("49", "0200", status=1))
@@ -121,12 +149,20 @@ class AsText(Pages):
         self.assertNotIn("b", page.tags)
 
 
-
 @unittest.skipUnless(CHROMIUM, "chromium is not installed")
 class InABrowser(Pages):
     def browser(self, option, name):
-        start = [CHROMIUM, "--headless", "--no-sandbox", "--disable-gpu", "--allow-file-access-from-files", f"--user-data-dir={self.folder}/browser"]
-        return subprocess.run([*start, option, f"file://{self.folder}/{name}"], capture_output=True, text=True, timeout=120, check=True).stdout
+        start = [
+            CHROMIUM,
+            "--headless",
+            "--no-sandbox",
+            "--disable-gpu",
+            "--allow-file-access-from-files",
+            f"--user-data-dir={self.folder}/browser",
+        ]
+        return subprocess.run(
+            [*start, option, f"file://{self.folder}/{name}"], capture_output=True, text=True, timeout=120, check=True
+        ).stdout
 
     def test_numbers(self):
         """As the browser has them after it took the page apart."""
@@ -143,7 +179,9 @@ class InABrowser(Pages):
         """In a window of 360 points nothing stands beyond its edge, and no cell has more than three lines."""
         self.page(self.day(self.fields()))
         (self.folder / "frame.html").write_text(FRAME)
-        wide, high, cells = re.search(r"<output>(\d+) (\d+) (\d+)</output>", self.browser("--dump-dom", "frame.html")).groups()
+        wide, high, cells = re.search(
+            r"<output>(\d+) (\d+) (\d+)</output>", self.browser("--dump-dom", "frame.html")
+        ).groups()
         self.assertLessEqual(int(wide), 360)
         self.assertLess(int(high), 4 * 24)
         self.assertGreater(int(cells), 1000)

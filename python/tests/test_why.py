@@ -1,4 +1,5 @@
-"""`ref why`: what it says of each refusal, by hand from 01 and the papers; and of seeded refusals, that what it says is so by tests/reference.py."""
+"""`ref why`: what it says of each refusal, by hand from 01 and the papers; and of seeded refusals, that what it says
+is so by tests/reference.py."""
 import random
 import re
 import unittest
@@ -6,24 +7,17 @@ import unittest
 import reference
 from drive import damaged
 from fields import good_field
-from paltinoma import Desk, Refused, slot
+from paltinoma import Refused, slot
 from papers import PAPERS
 from reads import BAD_FIELDS
 from ref.why import refusal, why, why_edit
 
+from tests.given import WithDesk
+
 SEEDED = 1500
-BASE = bytes.fromhex("062806010000")
 
 
-class WithDesk(unittest.TestCase):
-    @classmethod
-    def setUpClass(cls):
-        cls.desk = Desk()
-
-    @classmethod
-    def tearDownClass(cls):
-        cls.desk.close()
-
+class Explained(WithDesk):
     def why(self, cat, octets):
         field = bytes.fromhex(octets)
         refused = refusal(self.desk, cat, field)
@@ -31,31 +25,154 @@ class WithDesk(unittest.TestCase):
         return why(self.desk, cat, field, refused)
 
 
-class ByHand(WithDesk):
+class ByHand(Explained):
     """Of each number: what stands there, what may stand there, what is said, the field that is mended."""
 
     ROWS = [
-        (49, "0200", "", "", ["The categories are 48, 21, 7.", "As category 48 it is accepted.", "As category 21 it is accepted.", "As category 7 it is accepted."], None),
+        (
+            49,
+            "0200",
+            "",
+            "",
+            [
+                "The categories are 48, 21, 7.",
+                "As category 48 it is accepted.",
+                "As category 21 it is accepted.",
+                "As category 7 it is accepted.",
+            ],
+            None,
+        ),
         (48, "", "", "", ["There are no octets; a field has LEN and the items indicator at least."], None),
         (48, "05", "", "", ["LEN is 5, and there is 1 octet: 4 octets more should follow."], None),
-        (48, "07280601 0000", "", "", ["LEN is 7, and there are 6 octets: 1 octet more should follow.", "With 06 at octet 0 the field is accepted."], "062806010000"),
-        (48, "0120 06", "", "", ["LEN counts itself and the items indicator, so it is 2 or more.", "With 03 at octet 0 the field is accepted."], "032006"),
-        (48, "0301 00", "00000001", "xxxxx000", ["Bit 1 is spare and must be 0.", "With 00 at octet 1 it is refused by 9 at octet 2, octets left between the last item and LEN.",
-                                                 "As category 21 it is accepted."], "030000"),
+        (
+            48,
+            "07280601 0000",
+            "",
+            "",
+            [
+                "LEN is 7, and there are 6 octets: 1 octet more should follow.",
+                "With 06 at octet 0 the field is accepted.",
+            ],
+            "062806010000",
+        ),
+        (
+            48,
+            "0120 06",
+            "",
+            "",
+            [
+                "LEN counts itself and the items indicator, so it is 2 or more.",
+                "With 03 at octet 0 the field is accepted.",
+            ],
+            "032006",
+        ),
+        (
+            48,
+            "0301 00",
+            "00000001",
+            "xxxxx000",
+            [
+                "Bit 1 is spare and must be 0.",
+                "With 00 at octet 1 it is refused by 9 at octet 2, octets left between the last item and LEN.",
+                "As category 21 it is accepted.",
+            ],
+            "030000",
+        ),
         (48, "0280", "", "xxxxxxx0", ["It has 1 octet, and LEN, which is 2, leaves no octets for it."], None),
-        (48, "0408 0200", "00000010 00000000", "xxxxxxxx xxxxxxxx xxxxxxxx", ["It has 3 octets, and LEN, which is 4, leaves 2 octets for it.", "As category 21 it is accepted.", ], None),
-        (48, "03200F", "00001111", "00000xx0", ["Bit 4 is spare and must be 0.", "With 06 at octet 2 the field is accepted."], "032006"),
-        (48, "0540018020", "00100000", "000xxxxx", ["Bit 6 is spare and must be 0.", "With 00 at octet 4 the field is accepted."], "0540018000"),
-        (48, "0780400003AAFF", "00000000 00000011 10101010 11111111", "00xxxxxx xxxxxxxx 00xxxxxx 00xxxxxx",
-         ["Bits 16, 8, 7 are spare and must be 0.", "With 2A 3F at octet 5 the field is accepted."], "07804000032A3F"),
-        (48, "032007", "00000111", "00000xx0", ["Bit 1 is FX: 1 says that another part follows, and the edition defines 1 part.", "With 06 at octet 2 the field is accepted."], "032006"),
-        (21, "080401010101 0103", "00000011", "xxxxxx00", ["Bit 2 is spare and must be 0.", "With 00 at octet 7 the field is accepted."], "0804010101010100"),
-        (48, "0580103FD7", "00111111 11010111", "0xxxxxxx xxxxxxxx", ["MD5.GA.GA is -41, -1025 ft; it may be from -40 to 8191, -1000 ft to 204775 ft."], None),
-        (48, "098020400001800000", "01000000 00000000 00000001 10000000 00000000 00000000", " ".join(["xxxxxxxx"] * 6),
-         ["MD5.POS.LAT is 4194305, about 90.000021 degrees; it may be from -4194304 to 4194304, -90 degrees to 90 degrees."], None),
-        (48, "060801000000", "", "", ["The indicator has ERR; what it has ends before octet 5, and LEN is 6: 1 octet is left over.", "With 05 at octet 0 the field is accepted."],
-         "050801000000"),
-        (48, "0300FF", "", "", ["The indicator has no items; what it has ends before octet 2, and LEN is 3: 1 octet is left over.", "With 02 at octet 0 the field is accepted."], "0200FF"),
+        (
+            48,
+            "0408 0200",
+            "00000010 00000000",
+            "xxxxxxxx xxxxxxxx xxxxxxxx",
+            [
+                "It has 3 octets, and LEN, which is 4, leaves 2 octets for it.",
+                "As category 21 it is accepted.",
+            ],
+            None,
+        ),
+        (
+            48,
+            "03200F",
+            "00001111",
+            "00000xx0",
+            ["Bit 4 is spare and must be 0.", "With 06 at octet 2 the field is accepted."],
+            "032006",
+        ),
+        (
+            48,
+            "0540018020",
+            "00100000",
+            "000xxxxx",
+            ["Bit 6 is spare and must be 0.", "With 00 at octet 4 the field is accepted."],
+            "0540018000",
+        ),
+        (
+            48,
+            "0780400003AAFF",
+            "00000000 00000011 10101010 11111111",
+            "00xxxxxx xxxxxxxx 00xxxxxx 00xxxxxx",
+            ["Bits 16, 8, 7 are spare and must be 0.", "With 2A 3F at octet 5 the field is accepted."],
+            "07804000032A3F",
+        ),
+        (
+            48,
+            "032007",
+            "00000111",
+            "00000xx0",
+            [
+                "Bit 1 is FX: 1 says that another part follows, and the edition defines 1 part.",
+                "With 06 at octet 2 the field is accepted.",
+            ],
+            "032006",
+        ),
+        (
+            21,
+            "080401010101 0103",
+            "00000011",
+            "xxxxxx00",
+            ["Bit 2 is spare and must be 0.", "With 00 at octet 7 the field is accepted."],
+            "0804010101010100",
+        ),
+        (
+            48,
+            "0580103FD7",
+            "00111111 11010111",
+            "0xxxxxxx xxxxxxxx",
+            ["MD5.GA.GA is -41, -1025 ft; it may be from -40 to 8191, -1000 ft to 204775 ft."],
+            None,
+        ),
+        (
+            48,
+            "098020400001800000",
+            "01000000 00000000 00000001 10000000 00000000 00000000",
+            " ".join(["xxxxxxxx"] * 6),
+            [
+                "MD5.POS.LAT is 4194305, about 90.000021 degrees; it may be from -4194304 to 4194304, -90 degrees to 90 degrees."
+            ],
+            None,
+        ),
+        (
+            48,
+            "060801000000",
+            "",
+            "",
+            [
+                "The indicator has ERR; what it has ends before octet 5, and LEN is 6: 1 octet is left over.",
+                "With 05 at octet 0 the field is accepted.",
+            ],
+            "050801000000",
+        ),
+        (
+            48,
+            "0300FF",
+            "",
+            "",
+            [
+                "The indicator has no items; what it has ends before octet 2, and LEN is 3: 1 octet is left over.",
+                "With 02 at octet 0 the field is accepted.",
+            ],
+            "0200FF",
+        ),
     ]
 
     def test_rows(self):
@@ -66,8 +183,10 @@ class ByHand(WithDesk):
 
     def test_subjects(self):
         for cat, octets, subject in (
-            (48, "05", "Octet 0 is LEN, the length of the whole field."), (48, "030100", "Octet 1 is the items indicator (document 000, 2.2)."),
-            (48, "03200F", "At octet 2 stands M4E part 1 (document 000, 2.5: Extended Mode 4 Report)."), (7, "03200F", "At octet 2 stands M4E part 1 (document 004, 2.5: Extended Mode 4)."),
+            (48, "05", "Octet 0 is LEN, the length of the whole field."),
+            (48, "030100", "Octet 1 is the items indicator (document 000, 2.2)."),
+            (48, "03200F", "At octet 2 stands M4E part 1 (document 000, 2.5: Extended Mode 4 Report)."),
+            (7, "03200F", "At octet 2 stands M4E part 1 (document 004, 2.5: Extended Mode 4)."),
             (48, "04400180", "At octet 4 should stand M5N FOM (document 000, 2.4: Mode 5 Reports, New Format)."),
             (48, "04080200", "At octet 2 should stand ERR (document 000, 2.7: Extended Range Report)."),
         ):
@@ -78,13 +197,24 @@ class ByHand(WithDesk):
         self.assertEqual(list(self.why(48, "04400180").marked()), ["   0  04 40 01 80 --", "                  ^^"])
         self.assertEqual(list(self.why(48, "").marked()), ["   0  --", "      ^^"])
         long = self.why(48, "1580FE" + "00" * 18)  # MD5 with all of its subfields ends before octet 20, and LEN is 21
-        self.assertEqual(list(long.marked()), ["   0  15 80 FE" + " 00" * 13, "  16  00 00 00 00 00", "                  ^^"])
+        self.assertEqual(
+            list(long.marked()), ["   0  15 80 FE" + " 00" * 13, "  16  00 00 00 00 00", "                  ^^"]
+        )
 
     def test_edits(self):
         every = slot("M4E", "ERR")
-        self.assertEqual(why_edit(self.desk, 48, slot("RPC"), "ERR", b"", 13), (["The slot is booked for RPC, and ERR is not among them."], None))
-        self.assertEqual(why_edit(self.desk, 48, slot(), "ERR", b"", 13)[0], ["The slot is booked for no items, and ERR is not among them."])
-        self.assertEqual(why_edit(self.desk, 48, every, "ERR", b"", 14), (["There are no octets for ERR; to take an item away is a removal."], None))
+        self.assertEqual(
+            why_edit(self.desk, 48, slot("RPC"), "ERR", b"", 13),
+            (["The slot is booked for RPC, and ERR is not among them."], None),
+        )
+        self.assertEqual(
+            why_edit(self.desk, 48, slot(), "ERR", b"", 13)[0],
+            ["The slot is booked for no items, and ERR is not among them."],
+        )
+        self.assertEqual(
+            why_edit(self.desk, 48, every, "ERR", b"", 14),
+            (["There are no octets for ERR; to take an item away is a removal."], None),
+        )
         facts, inner = why_edit(self.desk, 48, every, "ERR", b"\2\0", 14)
         self.assertEqual(facts, ["By itself, behind LEN and an indicator with the bit of ERR, it is refused:"])
         self.assertEqual((inner.field, inner.refused.number, inner.refused.place), (bytes.fromhex("04080200"), 5, 2))
@@ -107,7 +237,9 @@ class Seeded(WithDesk):
         rng = random.Random(7)
         for _ in range(count):
             cat = rng.choice([48, 21, 7])
-            field = damaged(rng, good_field(cat, rng)) if rng.randrange(2) else bytes.fromhex(rng.choice(BAD_FIELDS[cat]))
+            field = (
+                damaged(rng, good_field(cat, rng)) if rng.randrange(2) else bytes.fromhex(rng.choice(BAD_FIELDS[cat]))
+            )
             refused = refusal(self.desk, cat, field)
             wanted = reference.read(cat, field)
             self.assertEqual(wanted[0] == "ok", refused is None)
@@ -115,13 +247,16 @@ class Seeded(WithDesk):
                 yield cat, field, refused
 
     def test_what_is_said_is_so(self):
-        """The claims about the mended field and about other categories; and that the mended field passes what was refused."""
+        """The claims about the mended field and about other categories; and that the mended field passes what was
+        refused."""
         count = 0
         for cat, field, refused in self.refused_fields(SEEDED):
             told = why(self.desk, cat, field, refused)
             count += 1
             others = {int(fact.split()[2]) for fact in told.facts if fact.startswith("As category")}
-            self.assertEqual(others, {other for other in PAPERS if other != cat and reference.read(other, field)[0] == "ok"})
+            self.assertEqual(
+                others, {other for other in PAPERS if other != cat and reference.read(other, field)[0] == "ok"}
+            )
             self.mended(told, [fact for fact in told.facts if fact.startswith("With ")])
         self.assertGreater(count, SEEDED / 2)
 
@@ -130,7 +265,7 @@ class Seeded(WithDesk):
             return self.assertEqual(claims, [])
         _, octets, at, said = re.fullmatch(r"(With) ([0-9A-F ]+) at octet (\d+) (.*)", claims[0]).groups()
         put = bytes.fromhex(octets)
-        self.assertEqual(told.field[:int(at)] + put + told.field[int(at) + len(put):], told.mended)
+        self.assertEqual(told.field[: int(at)] + put + told.field[int(at) + len(put) :], told.mended)
         got = reference.read(told.cat, told.mended)
         if got[0] == "ok":
             return self.assertEqual(said, "the field is accepted.")
@@ -146,8 +281,11 @@ class Seeded(WithDesk):
             item, _, line = re.match(r"At octet \d+ stands (\w+)( (part \d|\w+))? \(", told.subject[0]).groups()
             octets = bytes(int(bits, 2) for bits in told.bits.split())
             wanted, fixed = cleared(cat, item, line or item, octets)
-            self.assertEqual(told.mended, field[:refused.place] + wanted + field[refused.place + len(wanted):])
-            self.assertEqual(told.right.replace(" ", ""), "".join("0" if bit == "1" else "x" for bit in f"{fixed:0{8 * len(wanted)}b}"))
+            self.assertEqual(told.mended, field[: refused.place] + wanted + field[refused.place + len(wanted) :])
+            self.assertEqual(
+                told.right.replace(" ", ""),
+                "".join("0" if bit == "1" else "x" for bit in f"{fixed:0{8 * len(wanted)}b}"),
+            )
 
     def test_new_octets(self):
         """14 is explained by the field of that item alone, as 01 defines it."""
