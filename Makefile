@@ -7,20 +7,26 @@
 
 PREFIX = /usr/local
 VERSION = 1.0
-PROGRAMS = refdesk listing unlisting
+PROGRAMS = target/bin/refdesk target/bin/listing target/bin/unlisting
 ARCHIVE = target/lib/librefdesk.a
-HOME_OF_REF = $(PREFIX)/lib/paltinoma
+SOURCES := crates.txt $(shell find crates -type f)
+TO = $(DESTDIR)$(PREFIX)
+REF = $(TO)/lib/paltinoma
+NEEDS_RT = @command -v rt >/dev/null || { echo "there is no 'rt' on the PATH; it is the command of the Rattle kit, and README.md says more" >&2; exit 127; }
 
 .PHONY: all check install bench
+.NOTPARALLEL: # rt keeps what it has proved below target/
 
-all: target/programs $(ARCHIVE)
+all: $(PROGRAMS) $(ARCHIVE)
 
 # rt proves what has changed, and is quick where nothing has
-target/programs: crates.txt $(shell find crates -type f)
-	rt check $(PROGRAMS)
+$(PROGRAMS): $(SOURCES)
+	$(NEEDS_RT)
+	rt check $(@F)
 	touch $@
 
-$(ARCHIVE): target/programs
+$(ARCHIVE): $(SOURCES)
+	$(NEEDS_RT)
 	mkdir -p $(@D)
 	rt staticlib exports >$(@D)/staticlib.out 2>&1 || { cat $(@D)/staticlib.out; exit 1; }
 	cp target/staticlib/libexports.a $@
@@ -38,15 +44,17 @@ check: all
 	python3 tests/installed.py
 
 install: all
-	install -d $(DESTDIR)$(PREFIX)/bin $(DESTDIR)$(PREFIX)/include $(DESTDIR)$(PREFIX)/lib/pkgconfig
-	install -d $(DESTDIR)$(HOME_OF_REF)/bin $(DESTDIR)$(HOME_OF_REF)/python/ref
-	install -m 644 $(ARCHIVE) $(DESTDIR)$(PREFIX)/lib
-	install -m 644 include/refdesk.h $(DESTDIR)$(PREFIX)/include
-	sed 's|@PREFIX@|$(PREFIX)|; s|@VERSION@|$(VERSION)|' include/refdesk.pc.in > $(DESTDIR)$(PREFIX)/lib/pkgconfig/refdesk.pc
-	install -m 755 bin/ref bin/run target/bin/refdesk $(DESTDIR)$(HOME_OF_REF)/bin
-	install -m 644 python/paltinoma.py python/paltinoma.json $(DESTDIR)$(HOME_OF_REF)/python
-	install -m 644 python/ref/*.py $(DESTDIR)$(HOME_OF_REF)/python/ref
-	ln -sf ../lib/paltinoma/bin/ref ../lib/paltinoma/bin/refdesk $(DESTDIR)$(PREFIX)/bin
+	$(if $(filter /%,$(PREFIX)),,$(error PREFIX is a path from the root, as $(HOME)/.local, and not '$(PREFIX)'))
+	install -d "$(TO)/bin" "$(TO)/include" "$(TO)/lib/pkgconfig" "$(TO)/share/doc/paltinoma" "$(REF)/bin" "$(REF)/python/ref"
+	install -m 644 $(ARCHIVE) "$(TO)/lib"
+	install -m 644 include/refdesk.h "$(TO)/include"
+	sed 's|@PREFIX@|$(PREFIX)|; s|@VERSION@|$(VERSION)|' include/refdesk.pc.in >target/refdesk.pc
+	install -m 644 target/refdesk.pc "$(TO)/lib/pkgconfig"
+	install -m 644 docs/PROTOCOL.md docs/NUMBERS.md docs/SPARE.md "$(TO)/share/doc/paltinoma"
+	install -m 755 bin/ref bin/run target/bin/refdesk "$(REF)/bin"
+	install -m 644 python/paltinoma.py python/paltinoma.json "$(REF)/python"
+	install -m 644 python/ref/*.py "$(REF)/python/ref"
+	ln -sf ../lib/paltinoma/bin/ref ../lib/paltinoma/bin/refdesk "$(TO)/bin"
 
 bench: all
 	bench/run

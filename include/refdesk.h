@@ -5,8 +5,8 @@
  * The functions are proved: whatever the octets and numbers, each answers and leaves exactly what document 01 (01-scope.md)
  * says, ref_copy and ref_rebuild what 02 (02-change-requests.md, Asks 5 and 6) says, and reads and writes only what it is
  * lent. They keep no state and allocate nothing, so threads may call them at once. Link librefdesk.a, which `make` builds for
- * x86-64 Linux as target/lib/librefdesk.a: `pkg-config --cflags --libs refdesk` says how where it is installed. tests/c has an
- * example.
+ * x86-64 Linux as target/lib/librefdesk.a: `pkg-config --cflags --libs refdesk` says how where it is installed. This file is
+ * C99 or later, or C++. tests/c has an example.
  *
  * Memory is lent for the call and not kept. Each pointer is followed by its count of elements; it is not NULL, also where
  * the count is 0. What is lent as const is only read, and may be lent twice. What is lent for writing (`record` of

@@ -6,7 +6,7 @@ refusal is the exception `Refused`.
 
     >>> field = bytes.fromhex("062806010000")
     >>> with Desk() as desk:
-    ...     print(desk.read(48, field)["ERR"])
+    ...     print(desk.read(48, field)["ERR"].text)
     ...     print(desk.replace(48, field, slot("RPC", "ERR"), "ERR", b"\\2\\0\\0").hex())
     256 NM
     062806020000
@@ -68,7 +68,7 @@ T = TypeVar("T")
 
 @dataclass(frozen=True)
 class Run:
-    """Bits hi to lo of a chain part or subfield, numbered as the papers do: a number of the record, or spare bits."""
+    """Bits hi to lo of a chain part or subfield, 1 being its last: a number of the record, or spare bits."""
 
     hi: int
     lo: int
@@ -82,6 +82,7 @@ class Run:
     start: int = 0  # what the number 0 stands for, in the unit
     ends: bool = False  # whether the lowest and the highest number stand for all that lies beyond, too
     code: bool = False  # whether the number is no count of its LSB; the note says why
+    octal: bool = False  # whether the paper gives the code in octal
     note: str = ""
 
     @property
@@ -101,8 +102,9 @@ class Line:
 
     name: str
     octets: int
-    chain: bool  # a chain part: the last bit, which is in no run, is FX
     runs: tuple[Run, ...]
+    chain: bool = False  # a chain part: the last bit, which is in no run, is FX
+    below: int = 0  # bits of later parts that the paper numbers below these
 
 
 @dataclass(frozen=True)
@@ -231,8 +233,10 @@ class Refused(Exception):
 
     @property
     def where(self) -> str:
-        """The place in words; '' where the number has none but 0."""
-        place = f"at line {self.place}" if self.number == 18 else f"at octet {self.place}" if self.number < 10 else ""
+        """The place in words; '' where it is 0 for want of a place."""
+        place = (
+            f"at line {self.place}" if self.number == 18 else f"at octet {self.place}" if 1 < self.number < 10 else ""
+        )
         return f"{place} of the {self.which}" if self.which else place
 
     def __str__(self) -> str:
@@ -286,12 +290,18 @@ class Field(NamedTuple):
     octets: bytes
 
 
-@dataclass(frozen=True)
-class Number:
-    """A number of a record, and what its paper says of it."""
+class Number(int):
+    """A number of a record: the integer that the record holds, with what its paper says of it."""
 
-    number: int
     run: Run
+
+    def __new__(cls, number: int, run: Run) -> Number:
+        made = super().__new__(cls, number)
+        made.run = run
+        return made
+
+    def __getnewargs__(self) -> tuple[int, Run]:  # type: ignore[override]
+        return int(self), self.run
 
     @property
     def key(self) -> str:
@@ -306,21 +316,19 @@ class Number:
     @property
     def value(self) -> Fraction | None:
         """What it stands for in its unit, exactly; None for a flag and for a code."""
-        return None if self.run.lsb is None or self.run.code else self.run.start + self.number * self.run.lsb
+        return None if self.run.lsb is None or self.run.code else self.run.start + int(self) * self.run.lsb
 
     @property
     def sense(self) -> str:
         """'atmost' or 'atleast' where it stands for all beyond its value, too; else 'equal'."""
         ends = {0: "atmost", 2**self.run.width - 1: "atleast"} if self.run.ends else {}
-        return ends.get(self.number, "equal")
+        return ends.get(int(self), "equal")
 
-    def __int__(self) -> int:
-        return self.number
-
-    def __str__(self) -> str:
-        """The value with its unit, or the bare number where it has none."""
+    @property
+    def text(self) -> str:
+        """What it stands for: the value with its unit, a code in octal; else the bare number."""
         if self.value is None:
-            return str(self.number)
+            return f"octal {int(self):0{self.run.width // 3}o}" if self.run.octal else str(int(self))
         beyond = {"atmost": " or less", "atleast": " or more", "equal": ""}[self.sense]
         return f"{_decimal(self.value)} {self.unit}{beyond}"
 
@@ -360,13 +368,14 @@ class Record(Mapping[str, Number]):
         return self.parts[known(self.cat).item(name).number - 1]
 
     def changed(self, numbers: Mapping[str, int], parts: Mapping[str, int] | None = None) -> Record:
-        """A record with these numbers by key, and with at least so many parts in the chains of these items. What they
-        stand in is there then, too; `write` refuses by 10 what no field holds."""
+        """A record with these numbers by key, and with so many parts in the chains of these items. What a number
+        stands in is there then, too, with the parts that it needs; `write` refuses by 10 what no field holds."""
         category, made = known(self.cat), self
         for key, number in numbers.items():
             item, line, run = category.number_at(key)
             flag = item.flag(line)
-            made = made._there(item, flag[0] if flag else item.lines.index(line) + 1 if line.chain else 0)
+            needed = flag[0] if flag else item.lines.index(line) + 1 if line.chain else 0
+            made = made._there(item, max(made.parts[item.number - 1], needed))
             made = made._put(run, number)._put(flag[1], 1) if flag else made._put(run, number)
         for name, count in (parts or {}).items():
             made = made._there(category.item(name), count)
@@ -374,7 +383,7 @@ class Record(Mapping[str, Number]):
 
     def _there(self, item: Item, count: int) -> Record:
         k = item.number - 1
-        parts = self.parts[:k] + (max(self.parts[k], count),) + self.parts[k + 1 :]
+        parts = self.parts[:k] + (count,) + self.parts[k + 1 :]
         return replace(self, indicator=self.indicator | item.bit, parts=parts)
 
     def _put(self, run: Run, number: int) -> Record:
@@ -423,14 +432,9 @@ class Record(Mapping[str, Number]):
 # ---- words of requests and answers
 
 
-def _within(value: int, low: int, high: int, what: str) -> int:
-    if not isinstance(value, int) or not low <= value <= high:
-        raise ValueError(f"{what} is from {low} to {high}, and not {value!r}")
-    return int(value)
-
-
 def _cat(cat: int) -> int:
-    return _within(cat, 0, 255, "a category")
+    """An octet; 0, which no paper has, in the place of a number that is no octet."""
+    return int(cat) if 0 <= cat <= 255 else 0
 
 
 def _hex(octets: Octets, most: int) -> str:
@@ -443,9 +447,15 @@ def _field(octets: Octets) -> str:
 
 
 def _room(room: int) -> int:
-    return min(
-        _within(room, 0, 1 << 63, "a room"), 300
-    )  # of more the protocol has no word, and every result has room in it
+    if room < 0:
+        raise ValueError(f"a room has 0 octets or more, and not {room}")
+    return min(int(room), 300)  # of more the protocol has no word, and every result has room in it
+
+
+def _sendable(record: Record) -> bool:
+    """Whether the protocol has a word for each part and number of a record."""
+    octets = (record.indicator, *record.parts)
+    return all(0 <= n <= 255 for n in octets) and all(-1 << 31 <= n < 1 << 31 for n in record.numbers)
 
 
 def _items(cat: int, names: Iterable[str]) -> list[Item]:
@@ -479,8 +489,8 @@ def _choice(which: str, start: str, length: str, octets: str) -> Choice:
 
 
 def _record(length: str, cat: str, items: str, *rest: str) -> Record:
-    numbers = tuple(map(int, rest))
-    return Record(int(cat), int(items), numbers[:8], numbers[8:])
+    _, *numbers = map(int, (length, *rest))
+    return Record(int(cat), int(items), tuple(numbers[:8]), tuple(numbers[8:]))
 
 
 def _rebuilt(cat: str, octets: str) -> Field:
@@ -488,6 +498,9 @@ def _rebuilt(cat: str, octets: str) -> Field:
 
 
 def _sheet(*lines: str) -> str:
+    keys = [line.partition("=")[0] for line in lines]
+    if keys[:3] != ["cat", "len", "items"] or lines[-1] != "end=ok" or not all("=" in line for line in lines):
+        raise ValueError(lines)
     return "".join(line + "\n" for line in lines)
 
 
@@ -508,26 +521,26 @@ def _found(program: str | os.PathLike[str] | None = None) -> str:
         return shutil.which(os.fspath(named)) or os.fspath(named)
     built = [str(HERE.parent / folder / "refdesk") for folder in ("target/bin", "bin")]
     path = next(filter(os.path.isfile, built), None) or shutil.which("refdesk")
+    if path is None and (HERE.parent / "Makefile").exists():
+        raise DeskMissing(f"refdesk is not built yet: `make` in {HERE.parent} builds it, which takes some minutes")
     if path is None:
-        raise DeskMissing(
-            f"refdesk is not built yet: `make` in {HERE.parent} proves and builds it, which takes some minutes"
-        )
+        raise DeskMissing("there is no refdesk: put it on the PATH, or its path into $REFDESK")
     return path
 
 
 def _command(program: str) -> list[str]:
     """How it is started. A build is for x86-64, and bin/run has the kit's emulator run it on another processor."""
     with open(program, "rb") as file:
-        built = file.read(4) == b"\x7fELF"
-    return (
-        [str(HERE.parent / "bin" / "run"), os.path.abspath(program)]
-        if built and platform.machine() != "x86_64"
-        else [program]
-    )
+        foreign = file.read(4) == b"\x7fELF" and platform.machine() != "x86_64"
+    run = HERE.parent / "bin" / "run"
+    if foreign and not run.is_file():
+        raise DeskMissing(f"{program} is for x86-64, and {run}, which has it emulated, is not there")
+    return [str(run), os.path.abspath(program)] if foreign else [program]
 
 
 class Desk:
     """One `refdesk` process. Use it in a `with` block, or close it. Threads may share it: their requests take turns.
+    A process that was forked opens a desk of its own.
 
     A field goes by its category and its octets from LEN on, an item by its name, a list by the names of its items.
     Where an output has a room, that is how many octets it has; `LONGEST` is enough for every field. Each method gives
@@ -535,7 +548,7 @@ class Desk:
 
     def __init__(self, program: str | os.PathLike[str] | None = None) -> None:
         self.program = _found(program)
-        self._turn = threading.Lock()
+        self._turn, self._opener = threading.Lock(), os.getpid()
         try:  # in a session of its own, so that what a terminal sends to the caller does not end it
             self._process = subprocess.Popen(
                 _command(self.program), stdin=subprocess.PIPE, stdout=subprocess.PIPE, start_new_session=True
@@ -554,9 +567,15 @@ class Desk:
         self.close()
 
     def close(self) -> None:
-        """Ends the process. A closed desk answers nothing more."""
-        with self._turn:
+        """Ends the process. A closed desk answers nothing more. So another thread, or a handler of a signal, can end a
+        desk that stalls: the request that waits finds its answer missing."""
+        if not self._turn.acquire(timeout=PATIENCE):
+            self._kill()
+            return
+        try:
             self._end()
+        finally:
+            self._turn.release()
 
     # ---- the requests
 
@@ -566,12 +585,10 @@ class Desk:
 
     def write(self, record: Record, room: int = LONGEST) -> bytes:
         """The field of a record."""
-        head = [
-            _within(n, 0, 255, "a category, indicator or count of parts")
-            for n in (record.cat, record.indicator, *record.parts)
-        ]
-        numbers = [_within(n, -1 << 31, (1 << 31) - 1, "a number of a record") for n in record.numbers]
-        return self._ask(_octets, "write", _room(room), *head, *numbers)
+        if not _sendable(record):
+            raise Refused(10 if record.cat in CATEGORIES else 1, 0)  # no field reads to it; 01's order: 1, 10, 11
+        words = (_cat(record.cat), record.indicator, *record.parts, *record.numbers)
+        return self._ask(_octets, "write", _room(room), *map(int, words))
 
     def sheet(self, cat: int, field: Octets) -> str:
         """The sheet of a field: key=value lines, each with its line feed."""
@@ -634,6 +651,8 @@ class Desk:
         with self._turn:
             if self._to.closed:
                 raise DeskFailed("the desk is closed")
+            if self._opener != os.getpid():
+                raise DeskFailed("the desk is another process's, and its answers would be mixed up; open one")
             told = b""
             try:
                 self._to.write(line.encode("ascii") + b"\n")
@@ -657,5 +676,13 @@ class Desk:
         try:
             self._process.wait(PATIENCE)
         except subprocess.TimeoutExpired:
-            os.killpg(self._process.pid, signal.SIGKILL)
+            self._kill()
             self._process.wait()
+
+    def _kill(self) -> None:
+        if self._opener != os.getpid():
+            return
+        try:
+            os.killpg(self._process.pid, signal.SIGKILL)
+        except ProcessLookupError:
+            pass  # it has ended

@@ -27,6 +27,7 @@ REMARKS = {
 }
 ENDS = {(21, "BPS")}  # their lowest and highest number stand for all that lies beyond, too
 NO_COUNTS = {(21, "SelH.SelH"), (21, "GAO.Lateral")}  # a printed LSB, from which no measure of the whole number is to be derived
+OCTAL = {(48, "MD5.EM1.EM1"), (48, "M5N.EM1.EM1"), (21, "MES.EM1.EM1"), (21, "MES.M2.M2"), (7, "M5N.EM1.EM1")}  # "in octal representation", A4 A2 A1 B4 ..
 
 
 # ---- the notation of crates/papers/specs/Notation.antt and crates/codec/specs/Printed.antt
@@ -260,7 +261,9 @@ as `REF_048_MD5_POS_LAT`. A presence flag is called as `REF_048_HAS_MD5_POS`.
   the bit is that of the octet, and the printed one stands in brackets.
 - limits: only those that are checked, by refusal 8 in the reader and 10 in the writer. Else every
   number that the bits can hold is accepted.
-- LSB and unit: the record holds the number of LSBs. Flags and codes have none.
+- LSB and unit: the record holds the number of LSBs. Flags and codes have none. A unit `octal` is
+  that of a code which the papers give "in octal representation", three bits to a digit: 640 is the
+  code 1200.
 """
 
 
@@ -284,7 +287,7 @@ def lsb_text(lsb):
     return f"{times}/{getattr(over, 'printed', over)}"
 
 
-def table_row(row):
+def table_row(row, octal):
     line, n = row.line, row.number
     cells = [
         str(row.slot),
@@ -293,7 +296,7 @@ def table_row(row):
         "two's complement" if n.signed else "unsigned",
         f"{n.limits[0]:,} to {n.limits[1]:,}" if n.limits else "",
         lsb_text(n.lsb),
-        f"{n.unit}, from {n.start} {n.unit}" if n.start else n.unit,
+        "octal" if octal else f"{n.unit}, from {n.start} {n.unit}" if n.start else n.unit,
     ]
     return "|" + "|".join(f" {cell} " if cell else " " for cell in cells) + "|"
 
@@ -310,7 +313,7 @@ def page():
         out.append(f"## Category {cat:03}, edition {edition} (document {document})\n")
         out.append(f"{len(found)} slots, 0 to {len(found) - 1}.\n{remarks(cat)}")
         out += ["| slot | key | place | sign | limits | LSB | unit |", "|---|---|---|---|---|---|---|"]
-        out += [table_row(row) for row in found] + [""]
+        out += [table_row(row, (cat, row.key) in OCTAL) for row in found] + [""]
     return "\n".join(out)
 
 

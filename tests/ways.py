@@ -11,7 +11,7 @@ import sys
 
 import spares
 from protocol import PAGE, table
-from slots import CATEGORIES, ENDS, NO_COUNTS, REMARKS, ROOT, Number, indicator, lines, paper, rows
+from slots import CATEGORIES, ENDS, NO_COUNTS, OCTAL, REMARKS, ROOT, Number, indicator, lines, paper, rows
 
 DATA = ROOT / "python/paltinoma.json"
 HEADER = ROOT / "include/refdesk.h"
@@ -54,6 +54,7 @@ def number_data(cat, row):
         "start": n.start,
         "ends": known in ENDS,
         "code": known in NO_COUNTS,
+        "octal": known in OCTAL,
         "note": REMARKS.get(known, ""),
     }
     return {name: value for name, value in said.items() if value}
@@ -79,11 +80,17 @@ def category_data(cat):
 
 def item_data(cat, number, entry, found):
     structures = zip(lines(entry), entry.parts + entry.subs)
-    made = [
-        {"name": line.label, "octets": line.octets, "chain": k < len(entry.parts), "runs": [run_data(cat, run, found) for run in structure.runs]}
-        for k, (line, structure) in enumerate(structures)
-    ]
+    made = [line_data(cat, line, structure, k < len(entry.parts), found) for k, (line, structure) in enumerate(structures)]
     return {"number": number, "name": entry.name, "title": titles()[cat, entry.name], "section": sections(cat)[entry.name], "lines": made}
+
+
+def line_data(cat, line, structure, chain, found):
+    """A part or subfield; `below` is how many bits of later parts the paper numbers below it, where it does so."""
+    below = {run.below for run in structure.runs}
+    if len(below) != 1:
+        raise ValueError(f"category {cat}: the bits of {line.label} are numbered in several ways")
+    data = {"name": line.label, "octets": line.octets, "chain": chain, "below": below.pop(), "runs": [run_data(cat, run, found) for run in structure.runs]}
+    return {name: value for name, value in data.items() if value}
 
 
 def laid(value, inner=""):

@@ -2,17 +2,19 @@
 from __future__ import annotations
 
 import argparse
+import re
 from collections.abc import Callable, Iterator
 from dataclasses import dataclass
 from typing import Any
 
 from paltinoma import CATEGORIES, Desk, Number, Record, Refused, slot
 
-from ref.lines import Line
+from ref.lines import Line, Usage, shortened
 from ref.octets import FX, Placed, Row, read_lines, rows, said
-from ref.why import Why, refusal, why, why_edit
+from ref.why import Why, refusal, why, why_new
 
 Data = dict[str, Any]
+Paint = Callable[[str, str], str]  # a text in the colour of its kind
 
 
 @dataclass(frozen=True)
@@ -21,18 +23,19 @@ class Asking:
 
     desk: Desk
     given: argparse.Namespace
-    paint: Callable[[str, str], str]
+    paint: Paint
 
 
 @dataclass(frozen=True)
 class Answer:
-    """`data` is for --json and `text` for the screen. Where a refusal writes nothing, `complaint` says it on standard
-    error."""
+    """`data` is for --json and `text` for the screen. Where there is no text, `complaint` says why on standard error: it
+    was refused, or could not be asked so."""
 
     accepted: bool
     data: Data
     text: str = ""
     complaint: str = ""
+    asked: bool = True
 
 
 def ok(data: Data, text: str) -> Answer:
@@ -85,7 +88,13 @@ def number_data(number: Number) -> Data:
     measured = (
         {} if number.value is None else {"value": float(number.value), "unit": number.unit, "sense": number.sense}
     )
-    return {"key": number.key, "number": number.number, **measured}
+    octal = {"octal": number.text.removeprefix("octal ")} if number.run.octal else {}
+    return {"key": number.key, "number": int(number), **measured, **octal}
+
+
+def beside(number: Number) -> str:
+    """What stands beside a number: what it stands for, if that is more than the number."""
+    return "" if number.text == str(number) else number.text
 
 
 def read(ask: Asking, line: Line) -> Answer:
@@ -97,9 +106,7 @@ def read(ask: Asking, line: Line) -> Answer:
     data["items"] = [{"name": name, "parts": record.chain(name)} for name in record.present]
     data["numbers"] = [number_data(number) for number in record.values()]
     wide = max(map(len, record), default=0)
-    told = [
-        f"{key:{wide}}  {number.number:>9}  {number if number.unit else ''}".rstrip() for key, number in record.items()
-    ]
+    told = [f"{key:{wide}}  {number:>9}  {beside(number)}".rstrip() for key, number in record.items()]
     return ok(data, "".join(f"{row}\n" for row in told))
 
 
@@ -122,12 +129,18 @@ def line_data(placed: Placed, record: Record | None) -> Data:
     }
 
 
+def map_data(cat: int, field: bytes, record: Record | None, refused: Refused | None) -> Data:
+    """The parts and subfields that were read, and the octets behind LEN."""
+    lines = [line_data(placed, record) for placed in read_lines(cat, field, refused)]
+    return {"lines": lines, "behind": hexed(field[field[0] :]) if refused is None else ""}
+
+
 def title(cat: int) -> str:
     known = CATEGORIES.get(cat)
     return f"category {cat:03}, edition {known.edition} (document {known.document})" if known else f"category {cat:03}"
 
 
-def map_text(found: list[Row], paint: Callable[[str, str], str]) -> str:
+def map_text(found: list[Row], paint: Paint) -> str:
     """A row for each run of bits in each octet; what is refused is marked in front."""
     wide, told = max((len(row.name) for row in found), default=0), []
     for row in found:
@@ -140,7 +153,7 @@ def map_text(found: list[Row], paint: Callable[[str, str], str]) -> str:
 def map_of(ask: Asking, line: Line) -> Answer:
     cat, field, data = field_data(line)
     record, refused = reading(ask.desk, cat, field)
-    data["lines"] = [line_data(placed, record) for placed in read_lines(cat, field, refused)]
+    data.update(map_data(cat, field, record, refused))
     told = map_text(rows(cat, field, record, refused), ask.paint)
     if refused:
         return no(data, refused, f"{title(cat)}: {ask.paint('wrong', str(refused))}\n\n{told}")
@@ -152,56 +165,67 @@ def map_of(ask: Asking, line: Line) -> Answer:
 
 def why_data(told: Why) -> Data:
     data: Data = {"is": told.bits, "may_be": told.right, "facts": [*told.subject, *told.facts]}
-    return {**data, "mended": hexed(told.mended)} if told.mended else data
+    return {**data, "mended": hexed(told.mended[told.made :])} if told.mended else data
 
 
-def why_text(told: Why, paint: Callable[[str, str], str]) -> str:
+def why_text(told: Why, headline: str, paint: Paint) -> str:
     marked = [paint("wrong", row) if row.endswith("^^") else row for row in told.marked()]
-    bits = [f"  it is      {told.bits or 'not there'}", f"  it may be  {told.right}"] if told.right else []
-    return "".join(
-        f"{row}\n" for row in [paint("wrong", str(told.refused)), "", *marked, "", *told.subject, *bits, *told.facts]
-    )
+    bits = [f"  it is      {told.bits or 'nothing before LEN'}", f"  it may be  {told.right}"] if told.right else []
+    return "\n".join([paint("wrong", headline), "", *marked, "", *told.subject, *bits, *told.facts, ""])
 
 
 def advice(refused: Refused) -> str:
-    return refused.advice.replace("PLACE", f"octet {refused.place}")
+    """What docs/PROTOCOL.md says to do, in the words of a person."""
+    text = refused.advice.replace("PLACE", f"octet {refused.place}").replace("CAT", "the category")
+    return text[:1].upper() + text[1:]
 
 
 def why_of(ask: Asking, line: Line) -> Answer:
     cat, field, data = field_data(line)
+    edited = edit(ask, line) if ask.given.item else None
     refused = refusal(ask.desk, cat, field)
     if refused:
         told = why(ask.desk, cat, field, refused)
-        return no({**data, "why": why_data(told)}, refused, f"{why_text(told, ask.paint)}{advice(refused)}\n")
-    return why_edited(ask, line) if ask.given.item else ok(data, "accepted\n")
+        return no(
+            {**data, "why": why_data(told)}, refused, f"{why_text(told, str(refused), ask.paint)}{advice(refused)}\n"
+        )
+    if edited is None or edited.accepted:
+        return ok(edited.data if edited else data, f"accepted\n{edited.text if edited else ''}")
+    return why_not(ask, line, edited)
 
 
-def why_edited(ask: Asking, line: Line) -> Answer:
+def why_not(ask: Asking, line: Line, edited: Answer) -> Answer:
     """Of an edit that the desk refuses, and not the field."""
-    done = edit(ask, line)
-    if done.accepted:
-        return ok(done.data, f"accepted\n{done.text}")
-    slots, new = listed(line, ask.given.slot, "--slot"), new_octets(line, ask.given)
-    facts, inner = why_edit(ask.desk, line.cat(), slots, ask.given.item, new, done.data["refused"]["number"])
-    told: Data = {"facts": facts, "new": why_data(inner)} if inner else {"facts": facts}
-    text = "\n".join([ask.paint("wrong", done.complaint), "", *facts, ""]) + (
-        f"\n{why_text(inner, ask.paint)}" if inner else ""
+    item, new, facts = ask.given.item, new_octets(line, ask.given), []
+    if edited.data["refused"]["number"] == 13:
+        booked = ", ".join(sorted(listed(line, ask.given.slot, "--slot")))
+        facts = [f"The slot is booked for {booked}, and {item} is not among them."]
+    told = why_new(ask.desk, line.cat(), item, new) if new and not facts else None
+    if told:
+        return Answer(False, {**edited.data, "why": why_data(told)}, why_text(told, edited.complaint, ask.paint))
+    facts = facts or [f"There are no octets for {item}; to take an item away is a removal."]
+    return Answer(
+        False,
+        {**edited.data, "why": {"facts": facts}},
+        "\n".join([ask.paint("wrong", edited.complaint), "", *facts, ""]),
     )
-    return Answer(False, {**done.data, "why": told}, text)
 
 
 # ---- commands that write a field, or show an item
 
 
 def listed(line: Line, options: list[str], option: str) -> frozenset[str]:
-    """The names of a list for a line's category: `RPC,ERR` is for every category, `48=RPC,ERR` for that one."""
-    found = None
+    """The items of a list for a line's category: `RPC,ERR` is for every category, `48=RPC,ERR` for that one; where
+    several are for it, those of all of them."""
+    found: set[str] = set()
     for text in options:
         cat, given, names = text.rpartition("=")
-        if not given or cat.isdecimal() and int(cat) == line.cat():
-            found = [name for name in names.split(",") if name]
-    if found is None:
-        raise line.wrong(f"{option} names no items for category {line.cat():03}")
+        if given and not cat.strip().isdecimal():
+            raise Usage(f"{option} {text!r} is no list; one is RPC,ERR or 48=RPC,ERR")
+        if not given or int(cat) == line.cat():
+            found |= {name.strip() for name in names.split(",")} - {""}
+    if not found:
+        raise Usage(f"{option} names no items for category {line.cat():03}")
     return slot(*found)
 
 
@@ -234,14 +258,16 @@ def copy(ask: Asking, line: Line) -> Answer:
 def write(ask: Asking, line: Line) -> Answer:
     """A record by its keys; `M5N.chain` is the parts of a chain, as on the sheet."""
     cat = line.cat()
-    numbers: dict[str, int] = {}
-    parts: dict[str, int] = {}
+    told: dict[str, int] = {}
     for word in line.words[1:]:
-        key, equals, value = word.partition("=")
-        if not equals or not value.removeprefix("-").isdecimal() or not -1 << 31 <= int(value) < 1 << 31:
-            raise line.wrong(f"{word!r} is no KEY=NUMBER, as ERR=65536")
-        kind, name = (parts, key.removesuffix(".chain")) if key.endswith(".chain") else (numbers, key)
-        kind[name] = int(value)
+        key, _, value = word.partition("=")
+        if not re.fullmatch("-?[0-9]{1,10}", value):
+            raise Usage(f"{shortened(word)!r} is no KEY=NUMBER, as ERR=65536")
+        if key in told:
+            raise Usage(f"{key} is given twice")
+        told[key] = int(value)
+    parts = {key.removesuffix(".chain"): count for key, count in told.items() if key.endswith(".chain")}
+    numbers = {key: number for key, number in told.items() if not key.endswith(".chain")}
     record = Record(cat).changed(numbers, parts) if cat in CATEGORIES else Record(cat)
     return written({"cat": cat}, ask.desk.write, record)
 
@@ -258,7 +284,7 @@ def view(ask: Asking, line: Line) -> Answer:
 
 def choose(ask: Asking, line: Line) -> Answer:
     if len(line.words) != 3:
-        raise line.wrong("a choice is asked as CATEGORY BASE CORRECTION, each field as one word")
+        raise Usage("a choice is asked as CATEGORY BASE CORRECTION, each field as one word")
     base, correction = (line.octets(word, "a field", 255) for word in line.words[1:])
     data: Data = {"cat": line.cat(), "base": hexed(base), "correction": hexed(correction)}
     try:
@@ -269,7 +295,7 @@ def choose(ask: Asking, line: Line) -> Answer:
     return ok(data, f"{ask.given.item} of the {which} at octet {start}: {octets.hex(' ').upper()}\n")
 
 
-def rebuild(ask: Asking, text: str) -> Answer:
+def rebuild(ask: Asking, text: bytes) -> Answer:
     """The field of a sheet, as a line that every command takes."""
     try:
         cat, octets = ask.desk.rebuild(text)

@@ -2,18 +2,20 @@
 from __future__ import annotations
 
 import argparse
+import io
 import json
 import os
 import sys
 import textwrap
 from collections.abc import Callable, Iterator
-from typing import Any, NamedTuple, NoReturn, TextIO
+from typing import Any, NamedTuple, NoReturn
 
-from paltinoma import Desk, DeskFailed, UnknownName
+from paltinoma import Desk, DeskFailed, UnknownName, slot
 
 from ref import answers
 from ref.answers import Answer, Asking
 from ref.lines import Line, Usage, is_many, lines, texts
+from ref.octets import counted
 from ref.page import FOOT, HEAD, page
 from ref.progress import Progress
 
@@ -141,37 +143,44 @@ class Parser(argparse.ArgumentParser):
         raise Usage(f"{message} ({self.prog} --help says more)")
 
 
-def help_text(about: str, examples: list[str]) -> str:
-    return f"{about}\nexamples:\n{textwrap.indent(chr(10).join(examples), '  ')}\n\n{ABOUT_STATUS}"
+def told_in_help(description: str, about: str, examples: list[str]) -> dict[str, Any]:
+    shown = textwrap.indent("\n".join(examples), "  ")
+    return {
+        "description": description,
+        "epilog": f"{about}\nexamples:\n{shown}\n\n{ABOUT_STATUS}",
+        "formatter_class": argparse.RawDescriptionHelpFormatter,
+        "allow_abbrev": False,
+    }
 
 
-def parser() -> Parser:
-    def told(description: str, about: str, examples: list[str]) -> dict[str, Any]:
-        return {
-            "description": description,
-            "epilog": help_text(about, examples),
-            "formatter_class": argparse.RawDescriptionHelpFormatter,
-        }
-
-    program = (
-        "Reserved Expansion Fields of ASTERIX categories 048, 021 and 007, answered by the proved program refdesk."
-    )
-    top = Parser(prog="ref", **told(program, ABOUT_LINES, [command.examples[0] for command in COMMANDS.values()]))
+def top_parser() -> Parser:
+    program = "Reserved Expansion Fields of ASTERIX 048, 021 and 007, answered by the proved program refdesk."
+    top = Parser(prog="ref", **told_in_help(program, ABOUT_LINES, [one.examples[0] for one in COMMANDS.values()]))
     every = top.add_subparsers(dest="command", metavar="COMMAND", required=True)
     for name, command in COMMANDS.items():
-        one = every.add_parser(
-            name,
-            help=command.does,
-            **told(command.does, ABOUT_LINES if command.answer else ABOUT_TEXTS, command.examples),
-        )
-        one.add_argument("words", nargs="*", metavar=command.words, help="what is asked about")
-        one.add_argument("--json", action="store_true", help="an object of JSON for each, in a line")
-        one.add_argument(
-            "--program", metavar="PATH", help="refdesk, if not the one that was built or installed with this"
-        )
-        for option in command.options.split():
-            one.add_argument(f"--{option.rstrip('!')}", required=option.endswith("!"), **OPTIONS[option.rstrip("!")])
+        every.add_parser(name, help=command.does)
     return top
+
+
+def command_parser(name: str) -> Parser:
+    command = COMMANDS[name]
+    about = ABOUT_LINES if command.answer else ABOUT_TEXTS
+    one = Parser(prog=f"ref {name}", **told_in_help(command.does, about, command.examples))
+    one.add_argument("words", nargs="*", metavar=command.words, help="what is asked about")
+    one.add_argument("--json", action="store_true", help="an object of JSON for each, in a line")
+    one.add_argument("--program", metavar="PATH", help="refdesk, if not the one that was built or installed with this")
+    for option in command.options.split():
+        one.add_argument(f"--{option.rstrip('!')}", required=option.endswith("!"), **OPTIONS[option.rstrip("!")])
+    return one
+
+
+def parsed(arguments: list[str]) -> argparse.Namespace:
+    """The options and the words of a command, in any order."""
+    if arguments[:1] and arguments[0] in COMMANDS:
+        given = command_parser(arguments[0]).parse_intermixed_args(arguments[1:])
+        given.command = arguments[0]
+        return given
+    return top_parser().parse_args(arguments[:1])
 
 
 # ---- the answers
@@ -194,6 +203,10 @@ class Told(NamedTuple):
     answer: Answer
 
 
+def unasked(wrong: object) -> Answer:
+    return Answer(False, {"accepted": False, "error": str(wrong)}, complaint=str(wrong), asked=False)
+
+
 def told(ask: Asking, command: Command, words: list[str]) -> Iterator[Told]:
     """The answers to what the words ask about."""
     if command.answer is None:
@@ -201,9 +214,10 @@ def told(ask: Asking, command: Command, words: list[str]) -> Iterator[Told]:
         return
     for line in lines(words):
         try:
-            yield Told(line.where, " ".join(line.words), command.answer(ask, line))
-        except UnknownName as error:
-            raise line.wrong(error) from None
+            answer = command.answer(ask, line)
+        except (Usage, UnknownName) as wrong:
+            answer = unasked(wrong)
+        yield Told(line.where, " ".join(line.words), answer)
 
 
 def rebuilt(ask: Asking, words: list[str]) -> Iterator[Told]:
@@ -215,64 +229,80 @@ def rebuilt(ask: Asking, words: list[str]) -> Iterator[Told]:
 
 
 class Output:
-    """Where the answers go, from the first one on: until then nothing is written, and no file made."""
+    """Where the answers go. What goes to a file is written when all is answered, and not before."""
 
     def __init__(self, given: argparse.Namespace) -> None:
-        self.name: str | None = getattr(given, "out", None)
+        name = getattr(given, "out", None)
+        self.name = None if name == "-" else name
+        self.terminal = self.name is None and sys.stdout is not None and sys.stdout.isatty()
         self.page = given.command == "page" and not given.json
-        self.terminal = self.name is None and sys.stdout.isatty()
-        self.to: TextIO | None = None
+        self.count, self.held = 0, io.StringIO()
 
     def put(self, text: str) -> None:
-        if self.to is None:
-            try:
-                self.to = open(self.name, "w", encoding="utf-8") if self.name else sys.stdout
-            except OSError as error:
-                raise Usage(f"{self.name} can't be written: {error.strerror}") from None
-            self.to.write(HEAD if self.page else "")
-        self.to.write(text)
-        self.to.flush()  # what is asked next may wait for it
+        if self.name is None and sys.stdout is None:
+            raise Usage("there is no standard output")
+        to = self.held if self.name else sys.stdout
+        to.write(HEAD + text if self.page and not self.count else text)
+        to.flush()  # what is asked next may wait for it
+        self.count += 1
 
     def end(self) -> None:
-        if self.to and self.page:
+        if self.page and self.count:
             self.put(FOOT)
-        if self.to and self.name:
-            self.to.close()
+        if self.name and self.count:
+            try:
+                with open(self.name, "w", encoding="utf-8", errors="backslashreplace") as file:
+                    file.write(self.held.getvalue())
+            except OSError as error:
+                raise Usage(f"{self.name} can't be written: {error.strerror}") from None
 
 
 def put(one: Told, given: argparse.Namespace, out: Output) -> None:
-    """An answer to the screen, or as JSON; a refusal that has no text there to standard error."""
+    """An answer to the screen, or as JSON; what has no text there to standard error."""
     many, command, answer = is_many(given.words), COMMANDS[given.command], one.answer
-    if given.json:
-        out.put(json.dumps({"where": one.where, **answer.data} if one.where else answer.data) + "\n")
-        return
-    if answer.complaint:
+    if answer.complaint and not (given.json and answer.asked):
         print(f"ref: {one.where}: {answer.complaint}" if one.where else f"ref: {answer.complaint}", file=sys.stderr)
-    if answer.text:
-        gap = "\n" if many and command.apart and out.to else ""
+    if given.json and (many or answer.asked):
+        out.put(json.dumps({"where": one.where, **answer.data} if one.where else answer.data) + "\n")
+    elif answer.text:
+        gap = "\n" if many and command.apart and out.count else ""
         heading = f"{one.where}: {one.asked}\n" if many and command.headed else ""
         out.put(gap + heading + answer.text)
+    if not many and not given.json:
+        note_behind(answer)
 
 
-def check_edit(given: argparse.Namespace) -> None:
-    """An edit is whole; or, where `why` is asked about a field alone, nothing of it is there."""
-    has = [given.slot is not None, given.item is not None, given.to is not None or given.remove]
-    if given.to is not None and given.remove or not all(has) and (any(has) or given.command == "edit"):
-        raise Usage("an edit has --slot, --item, and one of --to and --remove")
+def note_behind(answer: Answer) -> None:
+    """Of one field, that more octets were given than belong to it. The map shows them."""
+    field = bytes.fromhex(answer.data.get("field", ""))
+    if answer.accepted and field and len(field) > field[0] and "lines" not in answer.data:
+        print(f"ref: {counted(len(field) - field[0])} behind LEN, not looked at", file=sys.stderr)
+
+
+def check(given: argparse.Namespace) -> None:
+    """What is wrong for every line. An edit is whole; or, where `why` is asked about a field alone, nothing of it is
+    there."""
+    lists = [*(getattr(given, "slot", None) or []), *(getattr(given, "withhold", None) or [])]
+    slot(*(name.strip() for text in lists for name in text.rpartition("=")[2].split(",") if name.strip()))
+    if getattr(given, "item", None) is not None:
+        slot(given.item)
+    if "slot" in given:
+        has = [given.slot is not None, given.item is not None, given.to is not None or given.remove]
+        if given.to is not None and given.remove or not all(has) and (any(has) or given.command == "edit"):
+            raise Usage("an edit has --slot, --item, and one of --to and --remove")
 
 
 def run(given: argparse.Namespace) -> int:
     """The answers, one by one; the exit status."""
+    check(given)
     out, status = Output(given), ACCEPTED
     coloured = out.terminal and "NO_COLOR" not in os.environ and os.environ.get("TERM") != "dumb"
     progress = Progress(sys.stderr, out.terminal)
-    if "slot" in given:
-        check_edit(given)
     with Desk(given.program) as desk:
         for one in told(Asking(desk, given, painted(coloured)), COMMANDS[given.command], given.words):
             put(one, given, out)
             progress.step(one.answer.accepted)
-            status = status if one.answer.accepted else REFUSED
+            status = max(status, ACCEPTED if one.answer.accepted else REFUSED if one.answer.asked else UNASKED)
     out.end()
     progress.end()
     return status
@@ -280,13 +310,20 @@ def run(given: argparse.Namespace) -> int:
 
 def main(arguments: list[str]) -> int:
     """The exit status."""
+    sys.stderr = sys.stderr or open(os.devnull, "w")
+    for stream in (sys.stdout, sys.stderr):
+        if isinstance(stream, io.TextIOWrapper):
+            stream.reconfigure(errors="backslashreplace")  # names of files may be no text
     try:
-        return run(parser().parse_args(arguments))
+        return run(parsed(arguments))
     except (Usage, UnknownName, DeskFailed) as error:
         print(f"ref: {error}", file=sys.stderr)
         return UNASKED
     except KeyboardInterrupt:
         return INTERRUPTED
-    except BrokenPipeError:
-        os.dup2(os.open(os.devnull, os.O_WRONLY), sys.stdout.fileno())  # so that nothing is written when Python ends
-        return UNREAD
+    except OSError as error:
+        os.dup2(os.open(os.devnull, os.O_WRONLY), 1)  # what is left in the buffer has no reader
+        if isinstance(error, BrokenPipeError):
+            return UNREAD
+        print(f"ref: the answers can't be written: {error.strerror}", file=sys.stderr)
+        return UNASKED

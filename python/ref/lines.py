@@ -10,7 +10,8 @@ import os
 import re
 import sys
 from collections.abc import Iterator
-from typing import NamedTuple, TextIO
+from io import TextIOWrapper
+from typing import NamedTuple
 
 MOST = 255  # octets of a field: LEN is one octet
 
@@ -25,33 +26,32 @@ class Line(NamedTuple):
     where: str
     words: list[str]
 
-    def wrong(self, why: object) -> Usage:
-        """Why these words can't be taken."""
-        return Usage(f"{self.where}: {why}" if self.where else str(why))
-
     def cat(self) -> int:
         """The category, its first word."""
         word = self.words[0]
         if not re.fullmatch("[0-9]{1,3}", word) or int(word) > 255:
-            raise self.wrong(f"{word!r} is no category; one is a number from 0 to 255, as 48")
+            raise Usage(f"{shortened(word)!r} is no category; one is a number from 0 to 255, as 48")
         return int(word)
 
     def field(self) -> bytes:
         """The octets behind the category."""
         if not self.words[1:]:
-            raise self.wrong("no octets stand behind the category; '-' stands for none")
+            none = "'-'" if self.where else "''"
+            raise Usage(f"no octets stand behind the category; {none} stands for none")
         return self.octets("".join(self.words[1:]), "a field", MOST)
 
     def octets(self, text: str, what: str, most: int) -> bytes:
         """Octets in hex, with or without spaces; '-' for none."""
         digits = "" if text == "-" else "".join(text.split())
         strange = re.search("[^0-9A-Fa-f]", digits)
+        if strange and not self.where and self.words[1:] == [text]:
+            raise Usage(f"{shortened(text)!r} is neither hex nor a file")
         if strange:
-            raise self.wrong(f"{strange[0]!r} in {shortened(text)!r} is no hex digit")
+            raise Usage(f"{strange[0]!r} in {shortened(text)!r} is no hex digit")
         if len(digits) % 2:
-            raise self.wrong(f"{shortened(text)!r} has {len(digits)} hex digits, and an octet is two")
+            raise Usage(f"{shortened(text)!r} has {len(digits)} hex digits, and an octet is two")
         if len(digits) > 2 * most:
-            raise self.wrong(f"{what} has at most {most} octets, and these are {len(digits) // 2}")
+            raise Usage(f"{what} has at most {most} octets, and these are {len(digits) // 2}")
         return bytes.fromhex(digits)
 
 
@@ -61,7 +61,7 @@ def shortened(text: str) -> str:
 
 def is_file(word: str) -> bool:
     """Whether a word behind a category names standard input or a file; what is hex is octets."""
-    return word == "-" or not re.fullmatch(r"[0-9A-Fa-f\s]*", word) and os.path.isfile(word)
+    return word == "-" or not re.fullmatch(r"[0-9A-Fa-f\s]*", word) and os.path.exists(word)
 
 
 def split(words: list[str]) -> tuple[list[str], list[str]]:
@@ -91,26 +91,28 @@ def lines(words: list[str]) -> Iterator[Line]:
                     yield Line(f"{called(name)}, line {number}", front + text.split())
 
 
-def texts(words: list[str]) -> Iterator[tuple[str, int, str]]:
+def texts(words: list[str]) -> Iterator[tuple[str, int, bytes]]:
     """Sheets, and the file and the line where each begins. A file may have many, with a blank line before each but the
     first."""
     for name in words or ["-"]:
-        with opened(name, newline="") as file:
-            *others, last = file.read().split("\n\n")
+        with opened(name) as file:
+            *others, last = file.buffer.read().split(b"\n\n")
         at = 1
-        for text in [other + "\n" for other in others] + [last]:
+        for text in [other + b"\n" for other in others] + [last]:
             yield called(name), at, text
-            at += text.count("\n") + 1
+            at += text.count(b"\n") + 1
 
 
 def called(name: str) -> str:
     return "standard input" if name == "-" else name
 
 
-def opened(name: str, newline: str | None = None) -> TextIO:
+def opened(name: str) -> TextIOWrapper:
+    """A file of words, with or without a mark of its encoding in front."""
+    if name == "-" and sys.stdin is None:
+        raise Usage("there is no standard input")
     try:
         file: int | str = sys.stdin.fileno() if name == "-" else name
-        return open(file, encoding="utf-8", errors="replace", newline=newline, closefd=name != "-")
+        return open(file, encoding="utf-8-sig", errors="replace", closefd=name != "-")
     except OSError as error:
-        hint = "; a field is given as a category and its octets, as 48 062806010000" if not os.path.exists(name) else ""
-        raise Usage(f"{name} can't be read: {error.strerror}{hint}") from None
+        raise Usage(f"{name} can't be read: {error.strerror}") from None

@@ -6,7 +6,7 @@ paltinoma.json.
 from __future__ import annotations
 
 from collections.abc import Iterable, Iterator
-from dataclasses import dataclass, replace
+from dataclasses import dataclass
 
 from paltinoma import CATEGORIES, Category, Item, Line, Number, Record, Refused, Run
 
@@ -53,6 +53,12 @@ class Placed:
         signed = bits - (1 << run.width) if run.signed and bits >> run.width - 1 else bits
         return Number(signed if record is None else record.of(run), run)
 
+    def label(self, run: Run) -> str:
+        """The numbers of its bits, and in brackets those that are printed where the paper numbers the parts of a chain
+        in one row."""
+        above = Run(run.hi + self.line.below, run.lo + self.line.below)
+        return f"{run.bits} ({above.bits.split()[-1]})" if self.line.below else run.bits
+
     @property
     def spare(self) -> tuple[Run, ...]:
         """Its spare bits."""
@@ -62,6 +68,11 @@ class Placed:
     def fixed(self) -> int:
         """A mask of the bits that are 0 in every field: spare bits, and FX in the last part."""
         return mask(self.spare) | (1 if self.last else 0)
+
+
+def counted(n: int, what: str = "octet") -> str:
+    """As '1 octet', '2 octets', 'no octets'."""
+    return f"{n or 'no'} {what}{'s' * (n != 1)}"
 
 
 def mask(runs: Iterable[Run]) -> int:
@@ -113,12 +124,12 @@ class Row:
     the run."""
 
     at: int
-    octet: str = ""
-    shown: str = "........"
-    name: str = ""
-    bits: str = ""
-    text: str = ""
-    kind: str = "wrong"  # number, flag, spare, head; wrong where it is refused; unread; behind LEN
+    octet: str
+    shown: str
+    name: str
+    bits: str
+    text: str
+    kind: str  # number, flag, spare, head; wrong where it is refused; unread; behind LEN
 
 
 def shown(octet: int, hi: int, lo: int) -> str:
@@ -136,15 +147,26 @@ def said(placed: Placed, run: Run, record: Record | None) -> tuple[str, str]:
     if run.flag:
         return f"{run.key} is {'there' if placed.bits(run) else 'absent'}", "flag"
     number = placed.number(run, record)
-    return f"{run.key} = {number.number}" + (f", {number}" if number.value is not None else ""), "number"
+    return f"{run.key} = {number}" + ("" if number.text == str(number) else f", {number.text}"), "number"
 
 
-def line_rows(placed: Placed, record: Record | None) -> Iterator[Row]:
+def is_wrong(placed: Placed, run: Run, refused: Refused | None) -> bool:
+    """Whether a run is why the part or subfield is refused there."""
+    if refused is None or placed.at != refused.place:
+        return False
+    if refused.number == 6:
+        return run.slot is None and run is not FX and placed.bits(run) != 0
+    if refused.number == 8:
+        return run.limits is not None and not run.limits[0] <= placed.number(run) <= run.limits[1]
+    return run is FX
+
+
+def line_rows(placed: Placed, record: Record | None, refused: Refused | None) -> Iterator[Row]:
     """The rows of a part or subfield that is whole: for each run one in each octet that it has bits of."""
     name, last = placed.name, 8 * placed.line.octets
     for run in placed.runs:
         text, kind = said(placed, run, record)
-        bits = run.bits
+        kind, bits = "wrong" if is_wrong(placed, run, refused) else kind, placed.label(run)
         for k in range((last - run.hi) // 8, (last - run.lo) // 8 + 1):
             octet, low = placed.octets[k], last - 8 * (k + 1)  # bit 1 of the octet is printed as one above low
             first = f"{octet:02X}" if run.hi - low >= 8 else ""
@@ -154,25 +176,29 @@ def line_rows(placed: Placed, record: Record | None) -> Iterator[Row]:
 
 def cut_rows(placed: Placed) -> Iterator[Row]:
     """The rows of a part or subfield that is not whole: its octets that are there, and the first that is not."""
-    text = f"{placed.line.octets} octet{'s' * (placed.line.octets > 1)} should stand here before LEN"
-    for k, octet in enumerate(placed.octets):
-        yield Row(placed.at + k, f"{octet:02X}", f"{octet:08b}", placed.name * (k == 0), "", text * (k == 0))
-    yield Row(
-        placed.at + len(placed.octets), "--", "", placed.name * (not placed.octets), "", text * (not placed.octets)
-    )
+    name, text = placed.name, f"{counted(placed.line.octets)} should stand here before LEN"
+    for at, octet in enumerate(placed.octets, placed.at):
+        yield Row(at, f"{octet:02X}", f"{octet:08b}", name, "", text, "wrong")
+        name = text = ""
+    yield Row(placed.at + len(placed.octets), "--", "", name, "", text, "wrong")
 
 
-def head_rows(cat: int, field: bytes) -> Iterator[Row]:
+def head_rows(cat: int, field: bytes, refused: Refused | None) -> Iterator[Row]:
     """LEN and the items indicator, as far as they are there."""
+    number = refused.number if refused else 0
     if field:
-        yield Row(0, f"{field[0]:02X}", f"{field[0]:08b}", "LEN", "", f"{field[0]} octets", "head")
+        kind = "wrong" if number in (2, 3) else "head"
+        yield Row(0, f"{field[0]:02X}", f"{field[0]:08b}", "LEN", "", counted(field[0]), kind)
     if len(field) > 1 and cat in CATEGORIES:
         category = CATEGORIES[cat]
         names = ", ".join(item.name for item in category.items if field[1] & item.bit) or "no items"
         run = Run(8, 9 - len(category.items))
         yield Row(1, f"{field[1]:02X}", shown(field[1], run.hi, run.lo), "indicator", run.bits, names, "head")
         for spare in category.spare:
-            yield Row(1, "", shown(field[1], spare.hi, spare.lo), "", spare.bits, "spare", "spare")
+            text, kind = ("spare, must be 0", "wrong") if field[1] & mask([spare]) else ("spare", "spare")
+            yield Row(
+                1, "", shown(field[1], spare.hi, spare.lo), "", spare.bits, text, kind if number == 4 else "spare"
+            )
 
 
 def left_rows(field: bytes, at: int, text: str, kind: str) -> Iterator[Row]:
@@ -180,21 +206,14 @@ def left_rows(field: bytes, at: int, text: str, kind: str) -> Iterator[Row]:
         yield Row(k, f"{field[k]:02X}", f"{field[k]:08b}", "", "", text * (k == at), kind)
 
 
-def body_rows(cat: int, field: bytes, record: Record | None, refused: Refused | None) -> Iterator[Row]:
-    """The chain parts and subfields that were read, the refused one marked."""
-    for placed in read_lines(cat, field, refused):
-        wrong = refused is not None and placed.at == refused.place
-        for row in line_rows(placed, record) if placed.whole else cut_rows(placed):
-            yield replace(row, kind="wrong") if wrong else row
-
-
 def rows(cat: int, field: bytes, record: Record | None, refused: Refused | None) -> list[Row]:
     """Every octet of a field with its record, or of a refused one with its refusal: what could be read, then what was
     not."""
-    found = [*head_rows(cat, field), *body_rows(cat, field, record, refused)]
-    if refused and refused.number < 5:
-        found = [replace(row, kind="wrong") if row.at == refused.place else row for row in found]
+    found = list(head_rows(cat, field, refused))
+    for placed in read_lines(cat, field, refused):
+        found += line_rows(placed, record, refused) if placed.whole else cut_rows(placed)
     there = max((row.at + 1 for row in found if row.shown), default=0)
     end = min(len(field), field[0]) if field and field[0] > 1 else len(field)
-    found += left_rows(field[:end], there, "left over" if refused and refused.number == 9 else "not read", "unread")
+    left, kind = ("left over", "wrong") if refused and refused.number == 9 else ("not read", "unread")
+    found += left_rows(field[:end], there, left, kind)
     return found + list(left_rows(field, max(end, there), "behind LEN, not looked at", "behind"))

@@ -6,9 +6,9 @@ from html import escape
 
 from paltinoma import CATEGORIES, Record
 
-from ref.answers import Answer, Asking, advice, field_data, line_data, no, number_data, ok, reading, title
+from ref.answers import Answer, Asking, advice, beside, field_data, map_data, no, number_data, ok, reading, title
 from ref.lines import Line
-from ref.octets import Row, read_lines, rows
+from ref.octets import Row, rows
 from ref.why import Why, why
 
 STYLE = """
@@ -24,8 +24,9 @@ th { font-weight: 600 } tbody th { background: var(--shade); padding-left: .4rem
 td.bits, td.key, td.number { white-space: nowrap; width: 1% } td.number { text-align: right }
 @media (max-width: 30rem) { body { font-size: .8125rem; padding: 0 .5rem 2rem } td, th { padding-right: .4rem } }
 .spare, .flag, .behind { color: var(--dim) }
-.wrong, .unread { color: var(--wrong) } p.wrong { font-weight: 600 }
-pre { overflow-x: auto } small { color: var(--dim); font-weight: 400 }
+.wrong { color: var(--wrong) } p.wrong { font-weight: 600 } tr.wrong td:first-child::before { content: ">" }
+.unread { color: var(--dim); font-style: italic }
+pre { overflow-x: auto } p { overflow-wrap: anywhere } small { color: var(--dim); font-weight: 400 }
 @media print {
   :root { color-scheme: light; --dim: #444; --line: #999; --wrong: #000; --shade: #eee }
   body { font-size: 9pt; line-height: 1.2; max-width: none; padding: 0 } td, th { padding-bottom: 0; padding-top: 0 }
@@ -49,7 +50,7 @@ def page(ask: Asking, line: Line) -> Answer:
     """The article of one field."""
     cat, field, data = field_data(line)
     record, refused = reading(ask.desk, cat, field)
-    data["lines"] = [line_data(placed, record) for placed in read_lines(cat, field, refused)]
+    data.update(map_data(cat, field, record, refused))
     if record is not None:
         data["numbers"] = [number_data(number) for number in record.values()]
         told = sheet_table(record, ask.desk.sheet(cat, field))
@@ -84,13 +85,13 @@ def sheet_table(record: Record, text: str) -> str:
         if key == "items":
             told.append(f'<tr>{cells(("key", key))}<td colspan="2">{escape(value).replace(",", ",<wbr>")}</td></tr>\n')
             continue
-        unit = str(record[key]) if key in record and record[key].unit else ""
+        unit = beside(record[key]) if key in record else ""
         told.append(f'<tr>{cells(("key", key), ("number", value), ("unit", unit))}</tr>\n')
     return "<h2>Sheet</h2>\n<table>\n" + "".join(told) + "</table>\n"
 
 
 def why_text(told: Why) -> str:
-    bits = f"<pre>it is      {told.bits or 'not there'}\nit may be  {told.right}</pre>\n" if told.right else ""
+    bits = f"<pre>it is      {told.bits or 'nothing before LEN'}\nit may be  {told.right}</pre>\n" if told.right else ""
     marked = "\n".join(told.marked())
     paragraphs = "".join(f"<p>{escape(line)}</p>\n" for line in [*told.subject, *told.facts, advice(told.refused)])
     return f'<p class="wrong">{escape(upper(str(told.refused)))}</p>\n<pre>{escape(marked)}</pre>\n{bits}{paragraphs}'

@@ -8,55 +8,58 @@ from __future__ import annotations
 from collections.abc import Iterable, Iterator
 from dataclasses import dataclass, field as default
 
-from paltinoma import CATEGORIES, Category, Desk, Number, Refused, Run
+from paltinoma import CATEGORIES, Desk, Number, Refused, Run
 
-from ref.octets import Placed, mask, read_lines
+from ref.octets import FX, Placed, counted, is_wrong, mask, read_lines
 
 ROW = 16  # octets that are shown in a line
 
 
 @dataclass
 class Why:
-    """What can be said of a refused field."""
+    """What can be said of a refused field. Where octets are tried as an item by themselves, the field is made of LEN
+    and an indicator in front of them: these two are `made`, and are neither shown nor counted."""
 
     cat: int
     field: bytes
     refused: Refused
+    made: int = 0
     subject: list[str] = default(default_factory=list)  # what of the paper is concerned, in a sentence
     bits: str = ""  # as they are there
     right: str = ""  # as they may be: 0 where they must be, x for either
     facts: list[str] = default(default_factory=list)
     mended: bytes | None = None  # the field with what is wrong at the place put right, where that is one way alone
 
+    @property
+    def place(self) -> int:
+        """Of the octets that are shown."""
+        return self.refused.place - self.made
+
     def marked(self) -> Iterator[str]:
-        """The octets, with the place marked below; two dashes where the field ends before it."""
-        octets = [f"{octet:02X}" for octet in self.field] + ["--"] * (self.refused.place >= len(self.field))
+        """The octets, with the place marked below; two dashes where they end before it. A category has no place."""
+        octets = [f"{octet:02X}" for octet in self.field[self.made :]]
+        octets += ["--"] * (self.place >= len(octets))
         for at in range(0, len(octets), ROW):
             yield f"{at:4}  {' '.join(octets[at:at + ROW])}"
-            if at <= self.refused.place < at + ROW:
-                yield f"{'':6}{'   ' * (self.refused.place - at)}^^"
+            if at <= self.place < at + ROW and self.refused.number != 1:
+                yield f"{'':6}{'   ' * (self.place - at)}^^"
 
 
 def why(desk: Desk, cat: int, octets: bytes, refused: Refused) -> Why:
     """The explanation of a reader's refusal, by 1 to 9."""
-    told = explained(desk, cat, octets, refused)
-    told.facts += [
-        f"As category {other} it is accepted."
-        for other in CATEGORIES
-        if other != cat and refusal(desk, other, octets) is None
-    ]
+    told = explained(desk, Why(cat, octets, refused))
+    for other in CATEGORIES:
+        if other != cat and refusal(desk, other, octets) is None:
+            told.facts.append(f"As category {other} it is accepted.")
     return told
 
 
-def explained(desk: Desk, cat: int, octets: bytes, refused: Refused) -> Why:
-    told = Why(cat, octets, refused)
-    if refused.number == 1:
-        told.facts.append(f"The categories are {', '.join(map(str, CATEGORIES))}.")
-    else:
-        EXPLAINED[refused.number](told, CATEGORIES[cat])
-    if told.mended is not None:
-        told.facts.append(after(desk, told, told.mended))
-    return told
+def why_new(desk: Desk, cat: int, item: str, new: bytes) -> Why | None:
+    """The explanation of 14, by 01: "New octets are right exactly if the field made of LEN, an indicator with that one
+    bit, and these octets is accepted"."""
+    alone = bytes([len(new) + 2, CATEGORIES[cat].item(item).bit]) + new
+    refused = refusal(desk, cat, alone)
+    return explained(desk, Why(cat, alone, refused, made=2)) if new and refused else None
 
 
 def refusal(desk: Desk, cat: int, octets: bytes) -> Refused | None:
@@ -68,41 +71,50 @@ def refusal(desk: Desk, cat: int, octets: bytes) -> Refused | None:
     return None
 
 
+def explained(desk: Desk, told: Why) -> Why:
+    EXPLAINED[told.refused.number](told)
+    if told.mended is not None:
+        told.facts.append(after(desk, told, told.mended))
+    return told
+
+
 def after(desk: Desk, told: Why, mended: bytes) -> str:
     """What the desk says of the mended field."""
-    at, end = (
-        next(k for k in order if told.field[k] != mended[k])
-        for order in (range(len(mended)), range(len(mended) - 1, -1, -1))
-    )
-    put = f"With {mended[at:end + 1].hex(' ').upper()} at octet {at}"
+    changed = [k for k in range(len(mended)) if told.field[k] != mended[k]]
+    put = mended[changed[0] : changed[-1] + 1].hex(" ").upper()
     next_one = refusal(desk, told.cat, mended)
-    return f"{put} the field is accepted." if next_one is None else f"{put} it is {str(next_one).replace(':', ',')}."
+    verdict = "accepted" if next_one is None else str(next_one).replace(":", ",")
+    return f"With {put} at octet {changed[0] - told.made} it is {verdict}."
 
 
-# ---- what each number says of the field
+# ---- what each number says
 
 
-def short(told: Why, category: Category) -> None:
+def unknown(told: Why) -> None:
+    told.facts.append(f"The categories are {', '.join(map(str, CATEGORIES))}.")
+
+
+def short(told: Why) -> None:
     if not told.field:
         told.facts.append("There are no octets; a field has LEN and the items indicator at least.")
         return
     length, there = told.field[0], len(told.field)
     told.subject = ["Octet 0 is LEN, the length of the whole field."]
-    told.facts.append(
-        f"LEN is {length}, and there {are(there)} {counted(there)}: {counted(length - there)} more should follow."
-    )
+    more = counted(length - there)
+    told.facts.append(f"LEN is {length}, and there {are(there)} {counted(there)}: {more} more should follow.")
     if there > 1:
         told.mended = bytes([there]) + told.field[1:]
 
 
-def small(told: Why, category: Category) -> None:
+def small(told: Why) -> None:
     told.subject = ["Octet 0 is LEN, the length of the whole field."]
     told.facts.append("LEN counts itself and the items indicator, so it is 2 or more.")
-    if 1 < len(told.field) <= category.longest:
+    if 1 < len(told.field) <= CATEGORIES[told.cat].longest:
         told.mended = bytes([len(told.field)]) + told.field[1:]
 
 
-def indicator(told: Why, category: Category) -> None:
+def indicator(told: Why) -> None:
+    category = CATEGORIES[told.cat]
     spare = mask(category.spare)
     told.subject = [f"Octet 1 is the items indicator (document {category.document}, {category.section})."]
     told.bits, told.right = f"{told.field[1]:08b}", pattern(spare, 1)
@@ -110,56 +122,77 @@ def indicator(told: Why, category: Category) -> None:
     told.mended = told.field[:1] + bytes([told.field[1] & ~spare]) + told.field[2:]
 
 
-def cut(told: Why, category: Category) -> None:
-    placed = found(told, category)
-    left = told.field[0] - placed.at
-    told.facts.append(
-        f"It has {counted(placed.line.octets)}, and LEN, which is {told.field[0]}, leaves {counted(left)} for it."
-    )
+def cut(told: Why) -> None:
+    placed = found(told)
+    there = counted(len(placed.octets)).replace("no octets", "none")
+    if told.made:
+        told.facts.append(f"It has {counted(placed.line.octets)}, and there {are(len(placed.octets))} {there}.")
+        return
+    told.facts.append(f"It has {counted(placed.line.octets)}, and LEN, which is {told.field[0]}, leaves {there}.")
+    if placed.at + placed.line.octets <= len(told.field) <= CATEGORIES[told.cat].longest:
+        told.mended = bytes([len(told.field)]) + told.field[1:]
 
 
-def spare(told: Why, category: Category) -> None:
-    placed = found(told, category)
+def spare(told: Why) -> None:
+    placed = found(told)
     told.facts.append(set_bits(placed.spare, int.from_bytes(placed.octets, "big")))
+    if placed.last and placed.bits(FX):
+        told.facts.append(no_more_parts(placed))
     told.mended = cleared(told.field, placed)
 
 
-def goes_on(told: Why, category: Category) -> None:
-    placed = found(told, category)
-    parts = counted(len(placed.item.parts), "part")
-    told.facts.append(f"Bit 1 is FX: 1 says that another part follows, and the edition defines {parts}.")
+def goes_on(told: Why) -> None:
+    placed = found(told)
+    told.facts.append(no_more_parts(placed))
     told.mended = cleared(told.field, placed)
 
 
-def out_of_range(told: Why, category: Category) -> None:
-    placed = found(told, category)
+def out_of_range(told: Why) -> None:
+    placed = found(told)
+    told.right = ""  # every bit may be either; it is the number that may not
     for run in placed.line.runs:
-        number = placed.number(run)
-        if run.limits and not run.limits[0] <= number.number <= run.limits[1]:
-            least, most = (Number(limit, run) for limit in run.limits)
-            limits = f"from {least.number} to {most.number}, {least} to {most}"
-            told.facts.append(f"{run.key} is {number.number}, {number}; it may be {limits}.")
+        if run.limits and is_wrong(placed, run, told.refused):
+            number, least, most = placed.number(run), *(Number(limit, run) for limit in run.limits)
+            told.facts.append(
+                f"{run.key} is {number}, {number.text}; it may be from {least} to {most}, {least.text} to {most.text}."
+            )
 
 
-def left_over(told: Why, category: Category) -> None:
-    names = [item.name for item in category.items if told.field[1] & item.bit]
-    place, left = told.refused.place, told.field[0] - told.refused.place
+def left_over(told: Why) -> None:
+    names = [item.name for item in CATEGORIES[told.cat].items if told.field[1] & item.bit]
+    left = told.field[0] - told.refused.place
+    if told.made:
+        told.facts.append(f"{names[0]} ends before octet {told.place}: {counted(left)} {are(left)} left over.")
+        return
     told.facts.append(
-        f"The indicator has {', '.join(names) or 'no items'}; what it has ends before octet {place}, "
+        f"The indicator has {', '.join(names) or 'no items'}; what it has ends before octet {told.place}, "
         f"and LEN is {told.field[0]}: {counted(left)} {are(left)} left over."
     )
-    told.mended = bytes([place]) + told.field[1:]
+    told.mended = bytes([told.refused.place]) + told.field[1:]
 
 
-EXPLAINED = {2: short, 3: small, 4: indicator, 5: cut, 6: spare, 7: goes_on, 8: out_of_range, 9: left_over}
+EXPLAINED = {
+    1: unknown,
+    2: short,
+    3: small,
+    4: indicator,
+    5: cut,
+    6: spare,
+    7: goes_on,
+    8: out_of_range,
+    9: left_over,
+}
 
 
-def found(told: Why, category: Category) -> Placed:
+# ---- their words
+
+
+def found(told: Why) -> Placed:
     """The part or subfield at the place."""
-    placed = read_lines(told.cat, told.field, told.refused)[-1]
+    placed, category = read_lines(told.cat, told.field, told.refused)[-1], CATEGORIES[told.cat]
     stands, item = "stands" if placed.whole else "should stand", placed.item
     printed = f"document {category.document}, {item.section}: {item.title}"
-    told.subject = [f"At octet {placed.at} {stands} {placed.name} ({printed})."]
+    told.subject = [f"At octet {told.place} {stands} {placed.name} ({printed})."]
     told.bits = " ".join(f"{octet:08b}" for octet in placed.octets)
     told.right = pattern(placed.fixed, placed.line.octets)
     return placed
@@ -184,33 +217,10 @@ def set_bits(spares: Iterable[Run], octets: int) -> str:
     return f"Bit{'s' * (not one)} {', '.join(map(str, bits))} {'is' if one else 'are'} spare and must be 0."
 
 
-def counted(n: int, what: str = "octet") -> str:
-    return f"{n or 'no'} {what}{'s' * (n != 1)}"
+def no_more_parts(placed: Placed) -> str:
+    parts = counted(len(placed.item.parts), "part")
+    return f"Bit 1 is FX: 1 says that another part follows, and the edition defines {parts}."
 
 
 def are(n: int) -> str:
     return "is" if n == 1 else "are"
-
-
-# ---- what the desk's own refusals say of an edit
-
-
-def why_edit(
-    desk: Desk, cat: int, listed: frozenset[str], item: str, new: bytes | None, number: int
-) -> tuple[list[str], Why | None]:
-    """Of 13 and 14: facts, and why the new octets are no item."""
-    if number == 13:
-        return [
-            f"The slot is booked for {', '.join(sorted(listed)) or 'no items'}, and {item} is not among them."
-        ], None
-    if number != 14:
-        return [], None
-    if not new:
-        return [f"There are no octets for {item}; to take an item away is a removal."], None
-    # 01: "New octets are right exactly if the field made of LEN, an indicator with that one bit, and these octets is
-    # accepted"
-    alone = bytes([len(new) + 2, CATEGORIES[cat].item(item).bit]) + new
-    inner = refusal(desk, cat, alone)
-    return [f"By itself, behind LEN and an indicator with the bit of {item}, it is refused:"], explained(
-        desk, cat, alone, inner
-    ) if inner else None

@@ -6,6 +6,7 @@ import random
 import re
 import subprocess
 import sys
+import threading
 import time
 import unittest
 
@@ -39,7 +40,8 @@ At octet 2 stands M4E part 1 (document 000, 2.5: Extended Mode 4 Report).
   it is      00001111
   it may be  00000xx0
 Bit 4 is spare and must be 0.
-With 06 at octet 2 the field is accepted.
+Bit 1 is FX: 1 says that another part follows, and the edition defines 1 part.
+With 06 at octet 2 it is accepted.
 The octets from octet 2 on are of another edition or category, or damaged (docs/SPARE.md). Keep the field as it is and ask its maker.
 """
 
@@ -116,7 +118,9 @@ class Written(InFolder):
         )
         status, told, _ = self.ref("why", "--slot", "ERR", "--item", "ERR", "--to", "0200", "48", "062806010000")
         self.assertEqual((status, told.splitlines()[0]), (1, "refused by 14: new octets are not exactly one such item"))
-        self.assertIn("It has 3 octets, and LEN, which is 4, leaves 2 octets for it.\n", told)
+        self.assertIn("At octet 0 should stand ERR (document 000, 2.7: Extended Range Report).\n", told)
+        status, told, _ = self.ref("why", "--slot", "ERR", "--item", "ERR", "--to", "", "48", "062806010000")
+        self.assertIn("There are no octets for ERR; to take an item away is a removal.\n", told)
         self.assertEqual(
             self.ref("why", "--slot", "ERR", "--item", "ERR", "--to", "020000", "48", "062806010000")[:2],
             (0, "accepted\n48 062806020000\n"),
@@ -124,7 +128,14 @@ class Written(InFolder):
 
     def test_copy(self):
         self.assertEqual(self.ref("copy", "--withhold", "M4E,ERR", "48", "0838068007010000"), (0, "48 04108007\n", ""))
-        self.assertEqual(self.ref("copy", "--withhold", "", "48", "032006"), (0, "48 032006\n", ""))
+        for lists in (["M4E", "ERR"], ["M4E", "48=ERR"], ["48=M4E", "RPC , ERR"], ["48=M4E", "48=ERR"]):
+            words = [word for text in lists for word in ("--withhold", text)]
+            self.assertEqual(self.ref("copy", *words, "48", "062806010000"), (0, "48 0200\n", ""), lists)
+        for words in ("", "48=", "21=MES", ","):
+            said = "ref: --withhold names no items for category 048\n"
+            self.assertEqual(self.ref("copy", "--withhold", words, "48", "032006"), (2, "", said))
+        said = "ref: --withhold 'x=M4E' is no list; one is RPC,ERR or 48=RPC,ERR\n"
+        self.assertEqual(self.ref("copy", "--withhold", "x=M4E", "48", "032006"), (2, "", said))
 
     def test_lists_of_categories(self):
         """A name must be an item of the field's own category, so that nothing stays in a copy by mistake."""
@@ -146,8 +157,13 @@ class Written(InFolder):
             self.ref("write", "48", "M4E=4"), (1, "", "ref: refused by 10: record that no field reads to\n")
         )
         self.assertEqual(self.ref("write", "49", "M4E=4")[0], 1)
-        for word in ("M4E", "M4E=x", "M4E=", "M4E=2147483648"):
+        for word in ("M4E=2147483648", "M5N.chain=256", "M5N.chain=0"):
+            self.assertEqual(
+                self.ref("write", "48", word)[::2], (1, "ref: refused by 10: record that no field reads to\n")
+            )
+        for word in ("M4E", "M4E=x", "M4E=", "M4E=\u0663", "M4E=12345678901"):
             self.assertEqual(self.ref("write", "48", word), (2, "", f"ref: {word!r} is no KEY=NUMBER, as ERR=65536\n"))
+        self.assertEqual(self.ref("write", "48", "M4E=3", "M4E=3"), (2, "", "ref: M4E is given twice\n"))
 
     def test_rebuild(self):
         sheet = reference.sheet(bytes.fromhex("30062806010000"))
@@ -161,6 +177,12 @@ class Written(InFolder):
                 "ref: sheets.txt, line 11: refused by 18 at line 4: text that is no sheet of a field\n",
             ),
         )
+
+    def test_rebuild_octets(self):
+        """The text is its octets, whatever they are: these are one line, and fewer than 32,768."""
+        (self.folder / "no.txt").write_bytes(b"\xff" * 20000)
+        said = "ref: no.txt, line 1: refused by 18 at line 1: text that is no sheet of a field\n"
+        self.assertEqual(self.ref("rebuild", "no.txt"), (1, "", said))
 
 
 class Many(InFolder):
@@ -210,6 +232,24 @@ class Many(InFolder):
             (status, told), (1, f"day.txt, line 1: 48 03 20 06\naccepted\n\nday.txt, line 2: 48 03200F\n{WHY}")
         )
 
+    def test_wrong_lines(self):
+        """Each is told, the others are answered, and the status is 2."""
+        day = self.file("48 032006\n48 zz\n48 03200F\n21 030100\n48 0200\n")
+        status, told, said = self.ref("copy", "--withhold", "ERR", day)
+        self.assertEqual((status, told), (2, "48 032006\n48 0200\n"))
+        self.assertEqual(
+            said.splitlines(),
+            [
+                "ref: day.txt, line 2: 'z' in 'zz' is no hex digit",
+                "ref: day.txt, line 3: refused by 6 at octet 2: spare bit set in a chain part or subfield",
+                "ref: day.txt, line 4: category 021 has no item 'ERR'; it has BPS, SelH, NAV, GAO, SGV, STA, TNH, MES",
+            ],
+        )
+        status, told, _ = self.ref("sheet", "--json", day)
+        rows = [json.loads(row) for row in told.splitlines()]
+        self.assertEqual((status, [row.get("error") for row in rows][1]), (2, "'z' in 'zz' is no hex digit"))
+        self.assertEqual([row["accepted"] for row in rows], [True, False, False, True, True])
+
     def test_refusals_write_nothing(self):
         day = self.file("48 03200F\n48 032006\n")
         self.assertEqual(
@@ -223,10 +263,11 @@ class Many(InFolder):
 
     def test_progress(self):
         """On standard error, where a run is long; the answers are as without it."""
+        copy = ["copy", "--withhold", "48=ERR", "--withhold", "21=STA", "--withhold", "7=ERR"]
         fields = self.fields(1200)
-        status, told, said = self.ref("copy", "--withhold", "", self.day(fields))
+        status, told, said = self.ref(*copy, self.day(fields))
         self.assertEqual((status, told.count("\n"), said), (0, 1200, "ref: 1,200 asked, 0 refused, all answered\n"))
-        self.assertEqual(self.ref("copy", "--withhold", "", self.day(fields[:1000]))[2], "")
+        self.assertEqual(self.ref(*copy, self.day(fields[:1000]))[2], "")
 
     def test_long_progress(self):
         _, told, said = self.ref("sheet", "--json", self.file("48 0200\n" * 20001))
@@ -238,18 +279,16 @@ class Many(InFolder):
 
     def test_streams(self):
         """Each line is answered before the next one comes, so that a recorder can be listened to."""
-        with subprocess.Popen(
-            [str(REF), "copy", "--withhold", "", "-"],
-            stdin=subprocess.PIPE,
-            stdout=subprocess.PIPE,
-            text=True,
-            env=ENVIRONMENT,
-        ) as ref:
+        words = [str(REF), "copy", "--withhold", "ERR", "-"]
+        with subprocess.Popen(words, stdin=subprocess.PIPE, stdout=subprocess.PIPE, text=True, env=ENVIRONMENT) as ref:
+            guard = threading.Timer(60, ref.kill)
+            guard.start()
             ref.stdin.write("48 0200\n")
             ref.stdin.flush()
             self.assertEqual(ref.stdout.readline(), "48 0200\n")
             ref.stdin.close()
             self.assertEqual(ref.wait(), 0)
+            guard.cancel()
 
 
 class Json(InFolder):
@@ -309,6 +348,44 @@ class Json(InFolder):
         )
 
 
+class Words(InFolder):
+    def test_any_order(self):
+        for words in (
+            ["48", "--json", "032006"],
+            ["--json", "48", "03", "20", "06"],
+            ["48", "03", "--json", "20", "06"],
+        ):
+            self.assertEqual(json.loads(self.ref("sheet", *words)[1])["numbers"], {"M4E": 3})
+
+    def test_behind_len(self):
+        """What is not looked at is not passed over in silence, unless the answer shows it."""
+        status, told, said = self.ref("sheet", "48", "032006", "21", "04800FFF")
+        self.assertEqual(
+            (status, told.splitlines()[1], said), (0, "len=3", "ref: 5 octets behind LEN, not looked at\n")
+        )
+        self.assertEqual(self.ref("map", "48", "032006FF")[2], "")
+        self.assertEqual(json.loads(self.ref("map", "--json", "48", "032006FF")[1])["behind"], "FF")
+
+    def test_streams_that_are_not_there(self):
+        for command, said in (
+            ("sheet 48 0200 >&-", "ref: there is no standard output\n"),
+            ("sheet <&-", "ref: there is no standard input\n"),
+            ("sheet 48 0200 >/dev/full", "ref: the answers can't be written: No space left on device\n"),
+            ("page --out /dev/full 48 0200", "ref: /dev/full can't be written: No space left on device\n"),
+        ):
+            ended = subprocess.run(["sh", "-c", f"'{REF}' {command}"], capture_output=True, text=True, env=ENVIRONMENT)
+            self.assertEqual((ended.returncode, ended.stdout, ended.stderr), (2, "", said), command)
+        ended = subprocess.run(["sh", "-c", f"'{REF}' view --item ERR 48 0200 2>&-"], capture_output=True, text=True)
+        self.assertEqual((ended.returncode, ended.stdout), (1, ""))
+
+    def test_names_that_are_no_text(self):
+        name = os.fsdecode(b"bad\xff.txt")
+        self.file("48 0200\n", name)
+        for command in (["map"], ["page"], ["page", "--out", "page.html"]):
+            for env in ({}, {"PYTHONIOENCODING": "ascii"}, {"LC_ALL": "C"}):
+                self.assertEqual(self.ref(*command, name, **env)[::2], (0, ""))
+
+
 class OneLine(InFolder):
     """What can't be asked is told in one line, with status 2, and nothing is printed."""
 
@@ -318,7 +395,8 @@ class OneLine(InFolder):
         self.assertIn(wanted, said)
 
     def test_words(self):
-        self.said(["sheet", "48", "06 2G"], "'G' in '06 2G' is no hex digit")
+        self.said(["sheet", "48", "06", "2G"], "'G' in '062G' is no hex digit")
+        self.said(["sheet", "48", "06 2G"], "'06 2G' is neither hex nor a file")
         self.said(["sheet", "48", "062"], "'062' has 3 hex digits, and an octet is two")
         self.said(["sheet", "48", "02" * 300], "a field has at most 255 octets, and these are 300")
         self.said(
@@ -352,15 +430,26 @@ class OneLine(InFolder):
         self.said(["why", "--item", "ERR", "--remove", "48", "0200"], "an edit has --slot")
         self.said(["why", "--slot", "ERR", "48", "0200"], "an edit has --slot")
         self.said(
+            ["why", "--slot", "BPS", "--item", "BPS", "--remove", "48", "03200F"], "category 048 has no item 'BPS'"
+        )
+        self.said(["sheet", "--js", "48", "0200"], "unrecognized arguments: --js")
+        self.said(
             ["page", "--out", "no/such/folder.html", "48", "0200"],
             "no/such/folder.html can't be written: No such file or directory",
         )
 
     def test_no_page_is_begun(self):
-        self.said(["page", "48", "0G"], "is no hex digit")
+        self.said(["page", "48", "0G"], "is neither hex nor a file")
         before = self.folder / self.file("another page", "page.html")
-        self.said(["page", "--out", "page.html", "48", "0G"], "is no hex digit")
+        self.said(["page", "--out", "page.html", "48", "0G"], "is neither hex nor a file")
         self.assertEqual(before.read_text(), "another page")
+
+    def test_page_of_itself(self):
+        """The page is written when all is read."""
+        self.file("48 0200\n" * 500)
+        self.assertEqual(self.ref("page", "--out", "day.txt", "day.txt"), (0, "", ""))
+        self.assertEqual((self.folder / "day.txt").read_text().count("<article>"), 500)
+        self.assertIn("<article>", self.ref("page", "--out", "-", "48", "0200")[1])
 
     def test_program(self):
         self.said(
@@ -401,7 +490,7 @@ class Terminal(InFolder):
         day = self.folder / self.file("48 0200\n" * 12000)
         _, told = self.on_terminal("page", "--out", str(self.folder / "page.html"), str(day))
         self.assertRegex(told, r"^(\rref: [\d,]+ asked, 0 refused )+\rref: 12,000 asked, 0 refused, all answered\n$")
-        _, told = self.on_terminal("copy", "--withhold", "", str(day))
+        _, told = self.on_terminal("copy", "--withhold", "ERR", str(day))
         self.assertEqual(told, "48 0200\n" * 12000 + "ref: 12,000 asked, 0 refused, all answered\n")
 
     def test_interrupted(self):

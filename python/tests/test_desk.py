@@ -52,7 +52,9 @@ class Worked(Refusing):
         record = self.desk.read(48, BASE)
         self.assertEqual((record.cat, record.indicator, record.present), (48, 0x28, ("M4E", "ERR")))
         self.assertEqual([(key, int(n)) for key, n in record.items()], [("M4E", 3), ("ERR", 65536)])
-        self.assertEqual((record["ERR"].value, record["ERR"].unit), (256, "NM"))
+        self.assertEqual(
+            (record["ERR"], record["ERR"].value, record["ERR"].unit, record["ERR"].text), (65536, 256, "NM", "256 NM")
+        )
         self.assertEqual((record.chain("M4E"), record.chain("ERR"), record.chain("M5N")), (1, 0, 0))
         self.assertEqual(repr(record), "Record(48, M4E, ERR: {'M4E': 3, 'ERR': 65536})")
 
@@ -161,7 +163,23 @@ class Worked(Refusing):
             (self.desk.replace, BASE, slot("ERR"), "ERR", b"\2\0\0"),
             (self.desk.copy, BASE, slot("ERR")),
         ):
-            self.refused(1, 0, method, 49, *args)
+            for cat in (49, 0, 255, 256, -1, 10**9):
+                self.refused(1, 0, method, cat, *args)
+        self.refused(1, 0, self.desk.write, Record(256))
+        self.refused(1, 0, self.desk.write, Record(49, 256))
+
+    def test_records_that_no_field_reads_to(self):
+        """Whatever their numbers are: by 10, behind 1 and before 11."""
+        for record in (
+            Record(48, 256),
+            Record(48, -1),
+            Record(48).changed({"ERR": 1 << 31}),
+            Record(48).changed({"ERR": -(1 << 31)}),
+            Record(48).changed({"ERR": 10**20}),
+            Record(48).changed({}, {"M5N": 256}),
+            Record(48).changed({"M5N.FOM": 31}, {"M5N": 1}),
+        ):
+            self.refused(10, 0, self.desk.write, record, 0)
 
     def test_any_length(self):
         """No octet string is a fault: what lies behind the first 255, or 4,096, can't matter."""
@@ -192,22 +210,21 @@ class Names(WithDesk):
         with self.assertRaisesRegex(UnknownName, "category 048 has no item 'BPS'; it has MD5, M5N, M4E, RPC, ERR"):
             self.desk.view(48, BASE, "BPS")
 
-    def test_values_that_have_no_word(self):
+    def test_mistakes_of_the_caller(self):
         for call in (
-            lambda: self.desk.read(256, BASE),
-            lambda: self.desk.read(-1, BASE),
-            lambda: self.desk.read("48", BASE),
             lambda: self.desk.copy(48, BASE, slot(), -1),
-            lambda: self.desk.write(Record(48, 256)),
             lambda: Record(48, 0, (0,) * 7),
             lambda: Record(48, 0, (0,) * 8, (0,) * 78),
-            lambda: self.desk.write(Record(48).changed({"ERR": 1 << 31})),
         ):
             self.assertRaises(ValueError, call)
+        self.assertRaises(TypeError, self.desk.read, "48", BASE)
         self.assertRaises(TypeError, self.desk.read, 48, 6)
         self.assertRaises(TypeError, self.desk.read, 48, "0200")
+        self.assertEqual(self.desk.read(48, BASE)["M4E"], 3)  # and the desk goes on
+
+    def test_other_octets(self):
         self.assertEqual(self.desk.read(48, memoryview(b"x" + BASE)[1:]).present, ("M4E", "ERR"))
-        self.assertEqual(self.desk.read(48, BASE)["M4E"].number, 3)  # and the desk goes on
+        self.assertEqual(self.desk.read(48, bytearray(BASE)).present, ("M4E", "ERR"))
 
 
 def names(rng, cat):

@@ -13,6 +13,25 @@ from paltinoma import Desk, DeskFailed, DeskMissing, Refused, slot
 from tests.given import BASE, InFolder
 
 
+NO_ANSWERS = """bad-request 3
+
+ok
+ok 0G
+ok 012
+ok 00 00
+refused
+refused 13
+refused 13 0 0 0
+refused x 0
+refused 13 0 3
+refused 13 0 -1
+refused 16 0
+ok \xff
+""".splitlines(
+    keepends=True
+)
+
+
 class Failing(InFolder):
     def program(self, lines):
         """A program in Python in the place of refdesk; as that, it ends where nobody reads its answers."""
@@ -39,6 +58,9 @@ class Failing(InFolder):
             "paltinoma.HERE", self.folder / "python"
         ):
             os.environ.pop("REFDESK", None)
+            with self.assertRaisesRegex(DeskMissing, "there is no refdesk: put it on the PATH"):
+                Desk()
+            self.file("", "Makefile")
             with self.assertRaisesRegex(DeskMissing, "refdesk is not built yet: `make` in"):
                 Desk()
 
@@ -72,37 +94,26 @@ class Failing(InFolder):
             self.assertRaises(DeskFailed, desk.read, 48, BASE)
 
     def test_other_answers(self):
-        for answer in (
-            "bad-request 3\n",
-            "\n",
-            "ok\n",
-            "ok 0G\n",
-            "ok 012\n",
-            "ok 00 00\n",
-            "refused\n",
-            "refused 13\n",
-            "refused 13 0 0 0\n",
-            "refused x 0\n",
-            "refused 13 0 3\n",
-            "refused 13 0 -1\n",
-            "refused 16 0\n",
-            "ok \xff\n",
+        """What has not the form of an answer to that request is none, and the desk is closed behind it."""
+        for answer, name, *args in (
+            *((answer, "remove", 48, BASE, slot("ERR"), "ERR") for answer in NO_ANSWERS),
+            ("ok 3 3 0100\n", "view", 48, BASE, "ERR"),
+            ("ok 3 48 32\n", "read", 48, BASE),
+            ("ok x 48 32" + " 0" * 85 + "\n", "read", 48, BASE),
+            ("ok 3 48 32" + " 0" * 86 + "\n", "read", 48, BASE),
+            ("ok 3 3 3 010000\n", "choose", 48, BASE, BASE, "ERR"),
+            ("ok 0 3 3 010000\n", "choose", 48, BASE, BASE, "ERR"),
+            ("ok 062806010000\n", "rebuild", "x"),
+            ("ok\n", "sheet", 48, BASE),
+            ("ok cat=48 len=6 end=ok\n", "sheet", 48, BASE),
+            ("ok cat=48 len=6 items=ERR ERR end=ok\n", "sheet", 48, BASE),
+            ("ok cat=48 len=6 items=ERR ERR=1\n", "sheet", 48, BASE),
         ):
             with Desk(self.answering(answer)) as desk:
-                with self.assertRaisesRegex(DeskFailed, "gave no answer to remove", msg=answer):
-                    desk.remove(48, BASE, slot("ERR"), "ERR")
-                self.assertRaises(DeskFailed, desk.remove, 48, BASE, slot("ERR"), "ERR")
-
-    def test_answers_of_another_form(self):
-        for answer, ask in (
-            ("ok 3 3 0100\n", lambda desk: desk.view(48, BASE, "ERR")),
-            ("ok 3 48 32\n", lambda desk: desk.read(48, BASE)),
-            ("ok 3 3 3 010000\n", lambda desk: desk.choose(48, BASE, BASE, "ERR")),
-            ("ok 0 3 3 010000\n", lambda desk: desk.choose(48, BASE, BASE, "ERR")),
-            ("ok 062806010000\n", lambda desk: desk.rebuild("x")),
-        ):
-            with Desk(self.answering(answer)) as desk:
-                self.assertRaises(DeskFailed, ask, desk)
+                with self.assertRaisesRegex(DeskFailed, f"gave no answer to {name}", msg=answer):
+                    getattr(desk, name)(*args)
+                with self.assertRaisesRegex(DeskFailed, "the desk is closed"):
+                    getattr(desk, name)(*args)
 
     def test_interrupted(self):
         """An answer that comes after the interruption is not taken for the next one's."""
@@ -127,6 +138,35 @@ class Failing(InFolder):
             desk.close()
         self.assertEqual(desk._process.returncode, -signal.SIGKILL)
 
+    def test_stalled(self):
+        """Another thread can end a desk that does not answer, and who waits for the answer is told."""
+        desk = Desk(self.program("for line in sys.stdin: time.sleep(600)"))
+        with mock.patch("paltinoma.PATIENCE", 0.2):
+            threading.Timer(0.3, desk.close).start()
+            self.assertRaises(DeskFailed, desk.read, 48, BASE)
+
+    def test_closed_by_a_signal(self):
+        desk = Desk(self.program("for line in sys.stdin: time.sleep(600)"))
+        before = signal.signal(signal.SIGALRM, lambda *_: desk.close())
+        self.addCleanup(signal.signal, signal.SIGALRM, before)
+        with mock.patch("paltinoma.PATIENCE", 0.2):
+            signal.setitimer(signal.ITIMER_REAL, 0.3)
+            self.assertRaises(DeskFailed, desk.read, 48, BASE)
+
+    def test_forked(self):
+        """A forked process is told that the desk is not its own, and can't end it; the opener's answers stay right."""
+        with Desk() as desk:
+            child = os.fork()
+            if child == 0:
+                try:
+                    desk.read(48, BASE)
+                    os._exit(1)
+                except DeskFailed:
+                    desk.close()
+                    os._exit(42)
+            self.assertEqual(os.waitstatus_to_exitcode(os.waitpid(child, 0)[1]), 42)
+            self.assertEqual(desk.read(48, BASE)["ERR"], 65536)
+
     def test_closed_twice(self):
         desk = Desk()
         desk.close()
@@ -139,7 +179,7 @@ class Failing(InFolder):
 
         def ask(desk, number):
             field = bytes([5, 8, 0, 0, number])
-            wrong.extend(got for got in (desk.read(48, field)["ERR"].number for _ in range(200)) if got != number)
+            wrong.extend(got for got in (desk.read(48, field)["ERR"] for _ in range(200)) if got != number)
 
         with Desk() as desk:
             threads = [threading.Thread(target=ask, args=(desk, number)) for number in range(8)]

@@ -1,4 +1,5 @@
 """paltinoma.json, as the module has it, against the second transcription of the papers, tests/papers.py."""
+import pickle
 import unittest
 from fractions import Fraction
 
@@ -7,11 +8,19 @@ from papers import INDICATORS, MEASURES, PAPERS, SECTIONS
 from reference import keys, spare_bits
 
 KINDS = {(False, None): "u", (True, None): "s", (True, (-4194304, 4194304)): "lat", (True, (-40, 8191)): "ga"}
-FLAGS_AND_CODES = {"SelH.SelH", "GAO.Lateral"}  # an LSB is printed, but no measure of the number follows from it
+CODES = {"SelH.SelH", "GAO.Lateral"}  # an LSB is printed, but no measure of the number follows from it
+OCTAL = (
+    "EM1.EM1",
+    "M2.M2",
+)  # 2.3 and 2.4 of 000 and 2.4 of 004, subfield #5; 2.10 of 003, #3 and #6: "in octal representation"
 
 
 def bits_of(runs):
     return sum(1 << bit - 1 for run in runs for bit in range(run.lo, run.hi + 1))
+
+
+def every_line():
+    return [(cat, item, line) for cat, category in CATEGORIES.items() for item in category.items for line in item.lines]
 
 
 class Layouts(unittest.TestCase):
@@ -77,13 +86,19 @@ class Layouts(unittest.TestCase):
                 run for item in category.items for line in item.lines for run in line.runs if run.key and not run.flag
             ):
                 times, over, unit, start = MEASURES.get((cat, run.key), (0, 1, "", 0))
-                if times and run.key not in FLAGS_AND_CODES:
+                if times and run.key not in CODES:
                     self.assertEqual(Number(3, run).value, start + 3 * Fraction(times, over), run.key)
                     self.assertEqual(Number(3, run).unit, unit)
                 else:
+                    words = "octal 0003" if run.key.endswith(OCTAL) else "3"
                     self.assertEqual(
-                        (Number(3, run).value, Number(3, run).unit, str(Number(3, run))), (None, "", "3"), run.key
+                        (Number(3, run).value, Number(3, run).unit, Number(3, run).text), (None, "", words)
                     )
+
+    def test_numbered_on(self):
+        """000 and 004, 2.4: the first octet of M5N's primary subfield is bits 16/9, and no other part is numbered so."""
+        above = [(cat, item.name, line.name, line.below) for cat, item, line in every_line() if line.below]
+        self.assertEqual(above, [(48, "M5N", "part 1", 8), (7, "M5N", "part 1", 8)])
 
     def test_values_in_words(self):
         """By hand, from the LSBs of the papers: 1/256 NM, 180/2^23 degrees, 25 ft, 0.1 hPa from 800, 1/128 s."""
@@ -101,10 +116,20 @@ class Layouts(unittest.TestCase):
             (21, "BPS", 4094, "1209.4 hPa"),
             (21, "BPS", 4095, "1209.5 hPa or more"),
             (48, "M4E", 3, "3"),
+            (21, "MES.M2.M2", 640, "octal 1200"),
+            (48, "MD5.EM1.EM1", 4095, "octal 7777"),
             (7, "TA.TAmin", -8192, "-204800 ft"),
         ]
         for cat, key, number, words in rows:
-            self.assertEqual(str(Number(number, CATEGORIES[cat].number_at(key)[2])), words)
+            self.assertEqual(Number(number, CATEGORIES[cat].number_at(key)[2]).text, words)
+
+    def test_numbers_are_integers(self):
+        """With all that belongs to one: a flag that is 0 is false, and a number is written into a record as it is."""
+        number = Number(0, CATEGORIES[21].number_at("NAV.AP")[2])
+        self.assertFalse(number)
+        self.assertEqual((number, number + 1, f"{number:>3}", hash(number)), (0, 1, "  0", hash(0)))
+        again = pickle.loads(pickle.dumps(number))
+        self.assertEqual((again, again.key), (0, "NAV.AP"))
 
     def test_refusals(self):
         """01 has 1 to 15, and 02's Ask 6 has 18."""

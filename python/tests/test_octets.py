@@ -132,8 +132,8 @@ class Maps(WithDesk):
                 (1, ".....000", "", "bits 3/1", "spare"),
             ],
         )
-        self.assertEqual(told[3], (2, "0.......", "M5N part 1", "bit 8", "M5N.SUM is absent"))
-        self.assertEqual(told[10], (2, ".......1", "", "bit 1", "FX = 1, another part follows"))
+        self.assertEqual(told[3], (2, "0.......", "M5N part 1", "bit 8 (16)", "M5N.SUM is absent"))
+        self.assertEqual(told[10], (2, ".......1", "", "bit 1 (9)", "FX = 1, another part follows"))
         self.assertEqual(
             told[11:],
             [
@@ -150,11 +150,17 @@ class Maps(WithDesk):
             (48, "04400180", (4, "--", "", "M5N FOM", "1 octet should stand here before LEN", "wrong")),
             (48, "032007", (2, "", ".......1", "", "FX = 1, no other part is defined", "wrong")),
             (48, "03200F", (2, "0F", "00001...", "M4E part 1", "spare, must be 0", "wrong")),
-            (48, "060801000000", (5, "00", "00000000", "", "left over", "unread")),
+            (48, "060801000000", (5, "00", "00000000", "", "left over", "wrong")),
             (48, "0280AA", (3 - 1, "--", "", "MD5 part 1", "1 octet should stand here before LEN", "wrong")),
             (48, "0280AA", (2, "AA", "10101010", "", "behind LEN, not looked at", "behind")),
-            (49, "0200", (0, "02", "00000010", "LEN", "2 octets", "wrong")),
+            (49, "0200", (0, "02", "00000010", "LEN", "2 octets", "head")),
+            (49, "0200", (1, "00", "00000000", "", "not read", "unread")),
+            (48, "03200F", (2, "", ".....11.", "", "M4E = 3", "number")),
+            (48, "0580103FD7", (3, "", "..111111", "", "MD5.GA.GA = -41, -1025 ft", "wrong")),
+            (48, "0580103FD7", (3, "", ".0......", "", "MD5.GA.RES = 0", "number")),
             (48, "05", (0, "05", "00000101", "LEN", "5 octets", "wrong")),
+            (48, "0100", (0, "01", "00000001", "LEN", "1 octet", "wrong")),
+            (48, "030100", (1, "", ".....001", "", "spare, must be 0", "wrong")),
         ):
             field = bytes.fromhex(octets)
             found = rows(cat, field, *self.asked(cat, field))

@@ -131,7 +131,7 @@ class AsText(Pages):
                     "03 20 0F",
                     "Refused by 6 at octet 2: spare bit set in a chain part or subfield",
                     "Bit 4 is spare and must be 0.",
-                    "With 06 at octet 2 the field is accepted.",
+                    "With 06 at octet 2 it is accepted.",
                     "bits 8/4: spare, must be 0",
                 ],
                 cells,
@@ -141,6 +141,9 @@ class AsText(Pages):
         for octets in ("", "05", "0280", "060801000000", "0101"):
             Page(self.page("48", octets, status=1))
         Page(self.page("49", "0200", status=1))
+
+    def test_words_stay_as_they_are(self):
+        self.assertIn("Refused by 3 at octet 0: LEN is 0 or 1\n", Page(self.page("48", "0100", status=1)).cells)
 
     def test_names_of_files(self):
         """What a file is called can't become a tag."""

@@ -10,7 +10,7 @@ from fields import good_field
 from paltinoma import Refused, slot
 from papers import PAPERS
 from reads import BAD_FIELDS
-from ref.why import refusal, why, why_edit
+from ref.why import refusal, why, why_new
 
 from tests.given import WithDesk
 
@@ -30,10 +30,8 @@ class ByHand(Explained):
 
     ROWS = [
         (
-            49,
-            "0200",
-            "",
-            "",
+            (49, "0200"),
+            ("", ""),
             [
                 "The categories are 48, 21, 7.",
                 "As category 48 it is accepted.",
@@ -42,35 +40,23 @@ class ByHand(Explained):
             ],
             None,
         ),
-        (48, "", "", "", ["There are no octets; a field has LEN and the items indicator at least."], None),
-        (48, "05", "", "", ["LEN is 5, and there is 1 octet: 4 octets more should follow."], None),
+        ((48, ""), ("", ""), ["There are no octets; a field has LEN and the items indicator at least."], None),
+        ((48, "05"), ("", ""), ["LEN is 5, and there is 1 octet: 4 octets more should follow."], None),
         (
-            48,
-            "07280601 0000",
-            "",
-            "",
-            [
-                "LEN is 7, and there are 6 octets: 1 octet more should follow.",
-                "With 06 at octet 0 the field is accepted.",
-            ],
+            (48, "072806010000"),
+            ("", ""),
+            ["LEN is 7, and there are 6 octets: 1 octet more should follow.", "With 06 at octet 0 it is accepted."],
             "062806010000",
         ),
         (
-            48,
-            "0120 06",
-            "",
-            "",
-            [
-                "LEN counts itself and the items indicator, so it is 2 or more.",
-                "With 03 at octet 0 the field is accepted.",
-            ],
+            (48, "012006"),
+            ("", ""),
+            ["LEN counts itself and the items indicator, so it is 2 or more.", "With 03 at octet 0 it is accepted."],
             "032006",
         ),
         (
-            48,
-            "0301 00",
-            "00000001",
-            "xxxxx000",
+            (48, "030100"),
+            ("00000001", "xxxxx000"),
             [
                 "Bit 1 is spare and must be 0.",
                 "With 00 at octet 1 it is refused by 9 at octet 2, octets left between the last item and LEN.",
@@ -78,108 +64,97 @@ class ByHand(Explained):
             ],
             "030000",
         ),
-        (48, "0280", "", "xxxxxxx0", ["It has 1 octet, and LEN, which is 2, leaves no octets for it."], None),
+        ((48, "0280"), ("", "xxxxxxx0"), ["It has 1 octet, and LEN, which is 2, leaves none."], None),
         (
-            48,
-            "0408 0200",
-            "00000010 00000000",
-            "xxxxxxxx xxxxxxxx xxxxxxxx",
-            [
-                "It has 3 octets, and LEN, which is 4, leaves 2 octets for it.",
-                "As category 21 it is accepted.",
-            ],
+            (48, "04080200"),
+            ("00000010 00000000", "xxxxxxxx xxxxxxxx xxxxxxxx"),
+            ["It has 3 octets, and LEN, which is 4, leaves 2 octets.", "As category 21 it is accepted."],
             None,
         ),
         (
-            48,
-            "03200F",
-            "00001111",
-            "00000xx0",
-            ["Bit 4 is spare and must be 0.", "With 06 at octet 2 the field is accepted."],
+            (48, "052806010000"),
+            ("00000001 00000000", "xxxxxxxx xxxxxxxx xxxxxxxx"),
+            ["It has 3 octets, and LEN, which is 5, leaves 2 octets.", "With 06 at octet 0 it is accepted."],
+            "062806010000",
+        ),
+        (
+            (48, "03200E"),
+            ("00001110", "00000xx0"),
+            ["Bit 4 is spare and must be 0.", "With 06 at octet 2 it is accepted."],
             "032006",
         ),
         (
-            48,
-            "0540018020",
-            "00100000",
-            "000xxxxx",
-            ["Bit 6 is spare and must be 0.", "With 00 at octet 4 the field is accepted."],
-            "0540018000",
-        ),
-        (
-            48,
-            "0780400003AAFF",
-            "00000000 00000011 10101010 11111111",
-            "00xxxxxx xxxxxxxx 00xxxxxx 00xxxxxx",
-            ["Bits 16, 8, 7 are spare and must be 0.", "With 2A 3F at octet 5 the field is accepted."],
-            "07804000032A3F",
-        ),
-        (
-            48,
-            "032007",
-            "00000111",
-            "00000xx0",
+            (48, "03200F"),
+            ("00001111", "00000xx0"),
             [
+                "Bit 4 is spare and must be 0.",
                 "Bit 1 is FX: 1 says that another part follows, and the edition defines 1 part.",
-                "With 06 at octet 2 the field is accepted.",
+                "With 06 at octet 2 it is accepted.",
             ],
             "032006",
         ),
         (
-            21,
-            "080401010101 0103",
-            "00000011",
-            "xxxxxx00",
-            ["Bit 2 is spare and must be 0.", "With 00 at octet 7 the field is accepted."],
-            "0804010101010100",
+            (48, "0540018020"),
+            ("00100000", "000xxxxx"),
+            ["Bit 6 is spare and must be 0.", "With 00 at octet 4 it is accepted."],
+            "0540018000",
         ),
         (
-            48,
-            "0580103FD7",
-            "00111111 11010111",
-            "0xxxxxxx xxxxxxxx",
+            (48, "0780400003AAFF"),
+            ("00000000 00000011 10101010 11111111", "00xxxxxx xxxxxxxx 00xxxxxx 00xxxxxx"),
+            ["Bits 16, 8, 7 are spare and must be 0.", "With 2A 3F at octet 5 it is accepted."],
+            "07804000032A3F",
+        ),
+        (
+            (48, "04400101"),
+            ("00000001", "x0000000"),
+            [
+                "Bit 1 is FX: 1 says that another part follows, and the edition defines 2 parts.",
+                "With 00 at octet 3 it is accepted.",
+                "As category 21 it is accepted.",
+            ],
+            "04400100",
+        ),
+        (
+            (48, "0580103FD7"),
+            ("00111111 11010111", ""),
             ["MD5.GA.GA is -41, -1025 ft; it may be from -40 to 8191, -1000 ft to 204775 ft."],
             None,
         ),
         (
-            48,
-            "098020400001800000",
-            "01000000 00000000 00000001 10000000 00000000 00000000",
-            " ".join(["xxxxxxxx"] * 6),
+            (48, "098020400001800000"),
+            ("01000000 00000000 00000001 10000000 00000000 00000000", ""),
             [
-                "MD5.POS.LAT is 4194305, about 90.000021 degrees; it may be from -4194304 to 4194304, -90 degrees to 90 degrees."
+                "MD5.POS.LAT is 4194305, about 90.000021 degrees; "
+                "it may be from -4194304 to 4194304, -90 degrees to 90 degrees."
             ],
             None,
         ),
         (
-            48,
-            "060801000000",
-            "",
-            "",
+            (48, "060801000000"),
+            ("", ""),
             [
                 "The indicator has ERR; what it has ends before octet 5, and LEN is 6: 1 octet is left over.",
-                "With 05 at octet 0 the field is accepted.",
+                "With 05 at octet 0 it is accepted.",
             ],
             "050801000000",
         ),
         (
-            48,
-            "0300FF",
-            "",
-            "",
+            (48, "0400FFFF"),
+            ("", ""),
             [
-                "The indicator has no items; what it has ends before octet 2, and LEN is 3: 1 octet is left over.",
-                "With 02 at octet 0 the field is accepted.",
+                "The indicator has no items; what it has ends before octet 2, and LEN is 4: 2 octets are left over.",
+                "With 02 at octet 0 it is accepted.",
             ],
-            "0200FF",
+            "0200FFFF",
         ),
     ]
 
     def test_rows(self):
-        for cat, octets, bits, right, facts, mended in self.ROWS:
-            told = self.why(cat, octets)
-            self.assertEqual((told.bits, told.right, told.facts), (bits, right, facts), octets)
-            self.assertEqual(told.mended, bytes.fromhex(mended) if mended else None, octets)
+        for asked, bits, facts, mended in self.ROWS:
+            told = self.why(*asked)
+            self.assertEqual(((told.bits, told.right), told.facts), (bits, facts), asked)
+            self.assertEqual(told.mended, bytes.fromhex(mended) if mended else None, asked)
 
     def test_subjects(self):
         for cat, octets, subject in (
@@ -201,23 +176,24 @@ class ByHand(Explained):
             list(long.marked()), ["   0  15 80 FE" + " 00" * 13, "  16  00 00 00 00 00", "                  ^^"]
         )
 
-    def test_edits(self):
-        every = slot("M4E", "ERR")
-        self.assertEqual(
-            why_edit(self.desk, 48, slot("RPC"), "ERR", b"", 13),
-            (["The slot is booked for RPC, and ERR is not among them."], None),
-        )
-        self.assertEqual(
-            why_edit(self.desk, 48, slot(), "ERR", b"", 13)[0],
-            ["The slot is booked for no items, and ERR is not among them."],
-        )
-        self.assertEqual(
-            why_edit(self.desk, 48, every, "ERR", b"", 14),
-            (["There are no octets for ERR; to take an item away is a removal."], None),
-        )
-        facts, inner = why_edit(self.desk, 48, every, "ERR", b"\2\0", 14)
-        self.assertEqual(facts, ["By itself, behind LEN and an indicator with the bit of ERR, it is refused:"])
-        self.assertEqual((inner.field, inner.refused.number, inner.refused.place), (bytes.fromhex("04080200"), 5, 2))
+    def test_no_mark(self):
+        """A category is no octet."""
+        self.assertEqual(list(self.why(49, "0200").marked()), ["   0  02 00"])
+
+    def test_new_octets(self):
+        """Of the octets themselves: what they are tried behind is neither shown nor counted."""
+        told = why_new(self.desk, 48, "ERR", b"\2\0")
+        self.assertEqual(list(told.marked()), ["   0  02 00", "      ^^"])
+        self.assertEqual(told.subject, ["At octet 0 should stand ERR (document 000, 2.7: Extended Range Report)."])
+        self.assertEqual((told.facts, told.mended), (["It has 3 octets, and there are 2 octets."], None))
+        told = why_new(self.desk, 48, "ERR", b"\2\0\0\0")
+        self.assertEqual(list(told.marked()), ["   0  02 00 00 00", "               ^^"])
+        self.assertEqual((told.facts, told.mended), (["ERR ends before octet 3: 1 octet is left over."], None))
+        told = why_new(self.desk, 48, "M5N", b"\1\x80\x3f")
+        self.assertEqual(told.subject, ["At octet 2 stands M5N FOM (document 000, 2.4: Mode 5 Reports, New Format)."])
+        self.assertEqual(told.facts, ["Bit 6 is spare and must be 0.", "With 1F at octet 2 it is accepted."])
+        self.assertIsNone(why_new(self.desk, 48, "ERR", b""))
+        self.assertIsNone(why_new(self.desk, 48, "ERR", b"\2\0\0"))
 
 
 def cleared(cat, item, line, octets):
@@ -263,13 +239,13 @@ class Seeded(WithDesk):
     def mended(self, told, claims):
         if told.mended is None:
             return self.assertEqual(claims, [])
-        _, octets, at, said = re.fullmatch(r"(With) ([0-9A-F ]+) at octet (\d+) (.*)", claims[0]).groups()
+        octets, at, said = re.fullmatch(r"With ([0-9A-F ]+) at octet (\d+) it is (.*)\.", claims[0]).groups()
         put = bytes.fromhex(octets)
         self.assertEqual(told.field[: int(at)] + put + told.field[int(at) + len(put) :], told.mended)
         got = reference.read(told.cat, told.mended)
         if got[0] == "ok":
-            return self.assertEqual(said, "the field is accepted.")
-        self.assertRegex(said, rf"^it is refused by {got[1]} at octet {got[2]}, ")
+            return self.assertEqual(said, "accepted")
+        self.assertRegex(said, rf"^refused by {got[1]} at octet {got[2]}, ")
         self.assertNotEqual(got[1:], (told.refused.number, told.refused.place))
 
     def test_patterns(self):
@@ -297,9 +273,10 @@ class Seeded(WithDesk):
             try:
                 self.desk.replace(cat, b"\2\0", slot(name), name, new)
             except Refused as refused:
-                _, inner = why_edit(self.desk, cat, slot(name), name, new, refused.number)
+                self.assertEqual(refused.number, 14)
+                told = why_new(self.desk, cat, name, new)
                 alone = bytes([len(new) + 2, 0x80 >> number - 1]) + new
-                self.assertEqual(("refused", inner.refused.number, inner.refused.place), reference.read(cat, alone))
+                self.assertEqual(("refused", told.refused.number, told.refused.place), reference.read(cat, alone))
                 count += 1
         self.assertGreater(count, 100)
 
