@@ -1,8 +1,8 @@
 """The Reserved Expansion Field of ASTERIX categories 048, 021 and 007, for Python.
 
-A `Desk` is one process of the proved program `refdesk`, which answers every request; this module only writes the
-requests and takes the answers apart. Octets are `bytes`, items and lists go by the names that the papers print, and a
-refusal is the exception `Refused`.
+A `Desk` is one process of the proved program `refdesk`. This module writes the requests and takes the answers apart,
+and refuses by itself only what the protocol has no word for. Octets are `bytes`, items and lists go by the names that
+the papers print, and a refusal is the exception `Refused`.
 
     >>> field = bytes.fromhex("062806010000")
     >>> with Desk() as desk:
@@ -17,6 +17,7 @@ from the papers' data, as docs/NUMBERS.md is. docs/PROTOCOL.md has the requests 
 from __future__ import annotations
 
 import json
+import operator
 import os
 import platform
 import shutil
@@ -48,7 +49,7 @@ __all__ = [
     "REFUSALS",
     "Refused",
     "Run",
-    "known",
+    "category",
     "slot",
     "UnknownName",
     "View",
@@ -148,27 +149,23 @@ class Category:
     spare: tuple[Run, ...]  # of the items indicator
     items: tuple[Item, ...]
 
-    @property
-    def slots(self) -> int:
-        """How many numbers its records have, presence flags among them."""
-        return sum(run.slot is not None for item in self.items for line in item.lines for run in line.runs)
+    def runs(self) -> Iterator[tuple[Item, Line, Run]]:
+        """Every run of bits of its items, with where it stands."""
+        return ((item, line, run) for item in self.items for line in item.lines for run in line.runs)
 
     def item(self, name: str) -> Item:
         """The item of that name."""
         for item in self.items:
             if item.name == name:
                 return item
-        raise UnknownName(
-            f"category {self.number:03} has no item {name!r}; it has {', '.join(i.name for i in self.items)}"
-        )
+        names = ", ".join(item.name for item in self.items)
+        raise UnknownName(f"category {self.number:03} has no item {name!r}; it has {names}")
 
     def number_at(self, key: str) -> tuple[Item, Line, Run]:
         """Where the number with that key of the sheet stands."""
-        for item in self.items:
-            for line in item.lines:
-                for run in line.runs:
-                    if run.key == key and not run.flag:
-                        return item, line, run
+        for item, line, run in self.runs():
+            if run.key == key and not run.flag:
+                return item, line, run
         raise UnknownName(f"category {self.number:03} has no number {key!r}")
 
 
@@ -199,11 +196,11 @@ def _category(raw: dict[str, Any]) -> Category:
 _DATA = json.loads((HERE / "paltinoma.json").read_text(encoding="utf-8"))
 CATEGORIES: dict[int, Category] = {raw["number"]: _category(raw) for raw in _DATA["categories"]}
 REFUSALS: dict[int, Refusal] = {raw["number"]: Refusal(raw["words"], raw["advice"]) for raw in _DATA["refusals"]}
-LONGEST = max(category.longest for category in CATEGORIES.values())  # octets; as room it is enough for every result
-SLOTS = max(category.slots for category in CATEGORIES.values())  # places of a record for numbers
+LONGEST = max(known.longest for known in CATEGORIES.values())  # octets; as room it is enough for every result
+SLOTS: int = _DATA["slots"]  # places of a record for numbers
 
 
-def known(cat: int) -> Category:
+def category(cat: int) -> Category:
     """The category of that number."""
     if cat not in CATEGORIES:
         raise UnknownName(f"no paper has category {cat}; there are {', '.join(map(str, CATEGORIES))}")
@@ -261,9 +258,9 @@ class UnknownName(ValueError):
 
 def slot(*names: str) -> frozenset[str]:
     """What a slot was booked for: items by the names of their papers. As a list of withheld items it serves, too."""
-    known = {item.name for category in CATEGORIES.values() for item in category.items}
+    every = {item.name for known in CATEGORIES.values() for item in known.items}
     for name in names:
-        if name not in known:
+        if name not in every:
             raise UnknownName(f"no category has an item {name!r}")
     return frozenset(names)
 
@@ -365,20 +362,20 @@ class Record(Mapping[str, Number]):
 
     def chain(self, name: str) -> int:
         """How many parts the chain of an item has; 0 if it is absent or has none."""
-        return self.parts[known(self.cat).item(name).number - 1]
+        return self.parts[category(self.cat).item(name).number - 1]
 
     def changed(self, numbers: Mapping[str, int], parts: Mapping[str, int] | None = None) -> Record:
         """A record with these numbers by key, and with so many parts in the chains of these items. What a number
         stands in is there then, too, with the parts that it needs; `write` refuses by 10 what no field holds."""
-        category, made = known(self.cat), self
+        paper, made = category(self.cat), self
         for key, number in numbers.items():
-            item, line, run = category.number_at(key)
+            item, line, run = paper.number_at(key)
             flag = item.flag(line)
             needed = flag[0] if flag else item.lines.index(line) + 1 if line.chain else 0
             made = made._there(item, max(made.parts[item.number - 1], needed))
             made = made._put(run, number)._put(flag[1], 1) if flag else made._put(run, number)
         for name, count in (parts or {}).items():
-            made = made._there(category.item(name), count)
+            made = made._there(paper.item(name), count)
         return made
 
     def _there(self, item: Item, count: int) -> Record:
@@ -390,8 +387,8 @@ class Record(Mapping[str, Number]):
         return replace(self, numbers=tuple(number if k == run.slot else old for k, old in enumerate(self.numbers)))
 
     def _items(self) -> Iterator[Item]:
-        category = CATEGORIES.get(self.cat)
-        return (item for item in category.items if self.indicator & item.bit) if category else iter(())
+        items = CATEGORIES[self.cat].items if self.cat in CATEGORIES else ()
+        return (item for item in items if self.indicator & item.bit)
 
     def lines(self) -> Iterator[tuple[Item, Line]]:
         """The chain parts and subfields that are there, in their order in the field."""
@@ -406,7 +403,7 @@ class Record(Mapping[str, Number]):
         return 0 if run.slot is None else self.numbers[run.slot]
 
     @cached_property
-    def _found(self) -> dict[str, Number]:
+    def _there_by_key(self) -> dict[str, Number]:
         return {
             run.key: Number(self.of(run), run)
             for _, line in self.lines()
@@ -415,13 +412,13 @@ class Record(Mapping[str, Number]):
         }
 
     def __iter__(self) -> Iterator[str]:
-        return iter(self._found)
+        return iter(self._there_by_key)
 
     def __len__(self) -> int:
-        return len(self._found)
+        return len(self._there_by_key)
 
     def __getitem__(self, key: str) -> Number:
-        return self._found[key]
+        return self._there_by_key[key]
 
     def __repr__(self) -> str:
         return (
@@ -434,7 +431,7 @@ class Record(Mapping[str, Number]):
 
 def _cat(cat: int) -> int:
     """An octet; 0, which no paper has, in the place of a number that is no octet."""
-    return int(cat) if 0 <= cat <= 255 else 0
+    return operator.index(cat) if 0 <= cat <= 255 else 0
 
 
 def _hex(octets: Octets, most: int) -> str:
@@ -449,7 +446,7 @@ def _field(octets: Octets) -> str:
 def _room(room: int) -> int:
     if room < 0:
         raise ValueError(f"a room has 0 octets or more, and not {room}")
-    return min(int(room), 300)  # of more the protocol has no word, and every result has room in it
+    return min(operator.index(room), 300)  # of more the protocol has no word, and every result has room in it
 
 
 def _sendable(record: Record) -> bool:
@@ -458,20 +455,20 @@ def _sendable(record: Record) -> bool:
     return all(0 <= n <= 255 for n in octets) and all(-1 << 31 <= n < 1 << 31 for n in record.numbers)
 
 
-def _items(cat: int, names: Iterable[str]) -> list[Item]:
+def _named(cat: int, names: Iterable[str]) -> list[Item]:
     """The items of these names; none in a category without a paper, which is refused before an item or a list is
     looked at."""
     if isinstance(names, str):
         raise UnknownName(f"a list is made of names, as slot({names!r}), and is none itself")
-    return [known(cat).item(name) for name in set(names)] if cat in CATEGORIES else []
+    return [category(cat).item(name) for name in set(names)] if cat in CATEGORIES else []
 
 
 def _number(cat: int, name: str) -> int:
-    return next((item.number for item in _items(cat, slot(name))), 0)
+    return next((item.number for item in _named(cat, slot(name))), 0)
 
 
 def _list(cat: int, names: Iterable[str]) -> str:
-    return f"{sum(item.bit for item in _items(cat, names)):02X}"
+    return f"{sum(item.bit for item in _named(cat, names)):02X}"
 
 
 def _octets(word: str) -> bytes:
@@ -504,16 +501,21 @@ def _sheet(*lines: str) -> str:
     return "".join(line + "\n" for line in lines)
 
 
-def _refused(number: str, place: str, which: str = "0") -> Refused:
-    if int(number) not in REFUSALS:
-        raise ValueError(number)
-    return Refused(int(number), int(place), dict(zip("012", WHICH))[which])
+def _refused(number: str, place: str) -> Refused:
+    if int(number) not in REFUSALS or int(place) < 0:
+        raise ValueError(number, place)
+    return Refused(int(number), int(place))
+
+
+def _refused_choice(number: str, place: str, which: str) -> Refused:
+    refused = _refused(number, place)
+    return Refused(refused.number, refused.place, dict(zip("012", WHICH))[which])
 
 
 # ---- the desk
 
 
-def _found(program: str | os.PathLike[str] | None = None) -> str:
+def _program(program: str | os.PathLike[str] | None = None) -> str:
     """The program: the one that is named, or else by $REFDESK; or the one that was built or installed with this file;
     or `refdesk` on the PATH."""
     named = program or os.environ.get("REFDESK")
@@ -521,7 +523,7 @@ def _found(program: str | os.PathLike[str] | None = None) -> str:
         return shutil.which(os.fspath(named)) or os.fspath(named)
     built = [str(HERE.parent / folder / "refdesk") for folder in ("target/bin", "bin")]
     path = next(filter(os.path.isfile, built), None) or shutil.which("refdesk")
-    if path is None and (HERE.parent / "Makefile").exists():
+    if path is None and (HERE.parent / "crates.txt").exists():
         raise DeskMissing(f"refdesk is not built yet: `make` in {HERE.parent} builds it, which takes some minutes")
     if path is None:
         raise DeskMissing("there is no refdesk: put it on the PATH, or its path into $REFDESK")
@@ -547,7 +549,7 @@ class Desk:
     the result or raises `Refused`; no method has another effect."""
 
     def __init__(self, program: str | os.PathLike[str] | None = None) -> None:
-        self.program = _found(program)
+        self.program = _program(program)
         self._turn, self._opener = threading.Lock(), os.getpid()
         try:  # in a session of its own, so that what a terminal sends to the caller does not end it
             self._process = subprocess.Popen(
@@ -569,6 +571,8 @@ class Desk:
     def close(self) -> None:
         """Ends the process. A closed desk answers nothing more. So another thread, or a handler of a signal, can end a
         desk that stalls: the request that waits finds its answer missing."""
+        if self._opener != os.getpid():
+            return
         if not self._turn.acquire(timeout=PATIENCE):
             self._kill()
             return
@@ -585,10 +589,11 @@ class Desk:
 
     def write(self, record: Record, room: int = LONGEST) -> bytes:
         """The field of a record."""
+        self._check()
         if not _sendable(record):
             raise Refused(10 if record.cat in CATEGORIES else 1, 0)  # no field reads to it; 01's order: 1, 10, 11
         words = (_cat(record.cat), record.indicator, *record.parts, *record.numbers)
-        return self._ask(_octets, "write", _room(room), *map(int, words))
+        return self._ask(_octets, "write", _room(room), *map(operator.index, words))
 
     def sheet(self, cat: int, field: Octets) -> str:
         """The sheet of a field: key=value lines, each with its line feed."""
@@ -624,6 +629,7 @@ class Desk:
 
     def rebuild(self, text: str | Octets, room: int = LONGEST) -> Field:
         """The category and the field whose sheet a text is."""
+        self._check()
         octets = text.encode("utf-8", "replace") if isinstance(text, str) else bytes(memoryview(text))
         if len(octets) > LONGEST_TEXT:
             raise Refused(18, 0)  # 02, Ask 6; such a text is longer than a line of the protocol
@@ -632,37 +638,43 @@ class Desk:
 
     # ---- how they are asked
 
+    def _check(self) -> None:
+        if self._opener != os.getpid():
+            raise DeskFailed("the desk is another process's, and its answers would be mixed up; open one")
+        if self._to.closed:
+            raise DeskFailed("the desk is closed")
+
     def _ask(self, taken: Callable[..., T], name: str, *words: object) -> T:
-        answer = self._answer(" ".join(map(str, (name, *words))))
-        verdict, *rest = answer.split(" ")
-        try:
-            if verdict == "ok":
-                return taken(*rest)
-            if verdict == "refused":
-                raise _refused(*rest)
-        except (LookupError, TypeError, ValueError):
-            pass  # it is not of the form that this request's answers have
-        self.close()
+        """What is taken from the answer. One that is cut short, or has not the form of an answer to that request, ends
+        the process before another request has its turn: a late answer would be taken for the next one's."""
+        self._check()
+        refusals: dict[str, Callable[..., Refused]] = {"choose": _refused_choice}
+        with self._turn:
+            answer = self._answer(" ".join(map(str, (name, *words))))
+            verdict, *rest = answer.split(" ")
+            try:
+                if verdict == "ok":
+                    return taken(*rest)
+                if verdict == "refused":
+                    raise refusals.get(name, _refused)(*rest)
+            except (LookupError, TypeError, ValueError):
+                pass
+            self._end()
         raise DeskFailed(f"{self.program} gave no answer to {name} but {answer[:100]!r}")
 
     def _answer(self, line: str) -> str:
-        """One line for one line. Whatever cuts it short ends the process: a late answer would be taken for the next
-        one's."""
-        with self._turn:
-            if self._to.closed:
-                raise DeskFailed("the desk is closed")
-            if self._opener != os.getpid():
-                raise DeskFailed("the desk is another process's, and its answers would be mixed up; open one")
-            told = b""
-            try:
-                self._to.write(line.encode("ascii") + b"\n")
-                self._to.flush()
-                told = self._from.readline()
-            except BrokenPipeError:
-                pass  # it is gone, and so is the answer
-            finally:
-                if not told.endswith(b"\n"):
-                    self._end()
+        """One line for one line."""
+        self._check()
+        told = b""
+        try:
+            self._to.write(line.encode("ascii") + b"\n")
+            self._to.flush()
+            told = self._from.readline()
+        except BrokenPipeError:
+            pass  # it is gone, and so is the answer
+        finally:
+            if not told.endswith(b"\n"):
+                self._end()
         if not told.endswith(b"\n"):
             raise DeskFailed(f"{self.program} ended {'within' if told else 'without'} an answer")
         return told[:-1].decode("ascii", "replace")
@@ -680,8 +692,6 @@ class Desk:
             self._process.wait()
 
     def _kill(self) -> None:
-        if self._opener != os.getpid():
-            return
         try:
             os.killpg(self._process.pid, signal.SIGKILL)
         except ProcessLookupError:

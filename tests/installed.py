@@ -18,7 +18,7 @@ from reference import sheet
 from sheets import WORKED
 
 ROOT = Path(__file__).resolve().parent.parent
-FILES = ["bin/ref", "bin/refdesk", "include/refdesk.h", "lib/librefdesk.a", "lib/pkgconfig/refdesk.pc"]
+FILES = ["bin/ref", "bin/refdesk", "include/refdesk.h", "lib/librefdesk.a", "lib/pkgconfig/refdesk.pc", "share/doc/paltinoma/SPARE.md"]
 MODULE = "import paltinoma; desk = paltinoma.Desk(); print(desk.program, desk.sheet(48, bytes.fromhex('062806010000')), end='')"
 
 

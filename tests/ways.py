@@ -114,6 +114,7 @@ def has_rows(value):
 def data():
     made = {
         "made": "by python3 tests/ways.py write from crates/papers/specs and docs/PROTOCOL.md, not by hand",
+        "slots": int(re.search(r"const SLOTS: usize = (\d+);", spares.source("layout"))[1]),
         "refusals": [{"number": number, "words": words, "advice": advice} for number, words, advice in refusals()],
         "categories": [category_data(cat) for cat in CATEGORIES],
     }

@@ -9,16 +9,16 @@ from typing import Any
 
 from paltinoma import CATEGORIES, Desk, Number, Record, Refused, slot
 
-from ref.lines import Line, Usage, shortened
-from ref.octets import FX, Placed, Row, read_lines, rows, said
-from ref.why import Why, refusal, why, why_new
+from ref.lines import FIELD, NEW, Asked, Usage, shortened
+from ref.octets import FX, Placed, Row, beside, read_lines, rows, said
+from ref.why import Why, reading, refusal, why, why_new
 
 Data = dict[str, Any]
 Paint = Callable[[str, str], str]  # a text in the colour of its kind
 
 
 @dataclass(frozen=True)
-class Asking:
+class Session:
     """Who is asked, with which options, and how a text of a kind is coloured."""
 
     desk: Desk
@@ -39,6 +39,7 @@ class Answer:
 
 
 def ok(data: Data, text: str) -> Answer:
+    """What was accepted."""
     return Answer(True, {"accepted": True, **data}, text)
 
 
@@ -48,6 +49,7 @@ def refused_data(refused: Refused) -> Data:
 
 
 def no(data: Data, refused: Refused, text: str = "") -> Answer:
+    """What was refused; with a text of its own, or else complained of."""
     complaint = "" if text else str(refused)
     return Answer(False, {"accepted": False, "refused": refused_data(refused), **data}, text, complaint)
 
@@ -56,31 +58,30 @@ def hexed(octets: bytes) -> str:
     return octets.hex().upper()
 
 
-def field_data(line: Line) -> tuple[int, bytes, Data]:
+def field_data(asked: Asked) -> tuple[int, bytes, Data]:
     """The category and the field of a line, and what every answer about them begins with."""
-    cat, field = line.cat(), line.field()
-    return cat, field, {"cat": cat, "field": hexed(field)}
+    cat, field = asked.cat(), asked.field()
+    return cat, field, {"cat": cat, "field": hexed(field), **behind(field)}
 
 
-def reading(desk: Desk, cat: int, field: bytes) -> tuple[Record | None, Refused | None]:
-    """Its record, or its refusal."""
-    try:
-        return desk.read(cat, field), None
-    except Refused as refused:
-        return None, refused
+def behind(*fields: bytes) -> Data:
+    """How many octets stand behind LEN, which nobody looks at."""
+    count = sum(len(field) - field[0] for field in fields if field and len(field) > field[0] > 1)
+    return {"behind": count} if count else {}
 
 
 # ---- commands that show a field
 
 
-def sheet(ask: Asking, line: Line) -> Answer:
-    cat, field, data = field_data(line)
+def sheet(session: Session, asked: Asked) -> Answer:
+    """The lines that `listing` prints, of a refused field too."""
+    cat, field, data = field_data(asked)
     try:
-        text = ask.desk.sheet(cat, field)
+        text = session.desk.sheet(cat, field)
     except Refused as refused:
         return no(data, refused, f"cat={cat}\nrefused={refused.number}\nat={refused.place}\n")
     (_, _), (_, length), (_, items), *numbers, _ = (row.split("=") for row in text.splitlines())
-    listed = {key: value if key.endswith(".sense") else int(value) for key, value in numbers}
+    listed = {key: int(value) if re.fullmatch("-?[0-9]+", value) else value for key, value in numbers}
     return ok({**data, "len": int(length), "items": items.split(",") if items else [], "numbers": listed}, text)
 
 
@@ -92,15 +93,11 @@ def number_data(number: Number) -> Data:
     return {"key": number.key, "number": int(number), **measured, **octal}
 
 
-def beside(number: Number) -> str:
-    """What stands beside a number: what it stands for, if that is more than the number."""
-    return "" if number.text == str(number) else number.text
-
-
-def read(ask: Asking, line: Line) -> Answer:
-    cat, field, data = field_data(line)
+def read(session: Session, asked: Asked) -> Answer:
+    """Each number that is there, and what it stands for."""
+    cat, field, data = field_data(asked)
     try:
-        record = ask.desk.read(cat, field)
+        record = session.desk.read(cat, field)
     except Refused as refused:
         return no(data, refused)
     data["items"] = [{"name": name, "parts": record.chain(name)} for name in record.present]
@@ -130,9 +127,8 @@ def line_data(placed: Placed, record: Record | None) -> Data:
 
 
 def map_data(cat: int, field: bytes, record: Record | None, refused: Refused | None) -> Data:
-    """The parts and subfields that were read, and the octets behind LEN."""
-    lines = [line_data(placed, record) for placed in read_lines(cat, field, refused)]
-    return {"lines": lines, "behind": hexed(field[field[0] :]) if refused is None else ""}
+    """The parts and subfields that were read."""
+    return {"lines": [line_data(placed, record) for placed in read_lines(cat, field, refused)]}
 
 
 def title(cat: int) -> str:
@@ -150,13 +146,14 @@ def map_text(found: list[Row], paint: Paint) -> str:
     return "".join(told)
 
 
-def map_of(ask: Asking, line: Line) -> Answer:
-    cat, field, data = field_data(line)
-    record, refused = reading(ask.desk, cat, field)
+def map_of(session: Session, asked: Asked) -> Answer:
+    """Every octet beside what it is."""
+    cat, field, data = field_data(asked)
+    record, refused = reading(session.desk, cat, field)
     data.update(map_data(cat, field, record, refused))
-    told = map_text(rows(cat, field, record, refused), ask.paint)
+    told = map_text(rows(cat, field, record, refused), session.paint)
     if refused:
-        return no(data, refused, f"{title(cat)}: {ask.paint('wrong', str(refused))}\n\n{told}")
+        return no(data, refused, f"{title(cat)}: {session.paint('wrong', str(refused))}\n\n{told}")
     return ok(data, f"{title(cat)}: accepted\n\n{told}")
 
 
@@ -170,7 +167,7 @@ def why_data(told: Why) -> Data:
 
 def why_text(told: Why, headline: str, paint: Paint) -> str:
     marked = [paint("wrong", row) if row.endswith("^^") else row for row in told.marked()]
-    bits = [f"  it is      {told.bits or 'nothing before LEN'}", f"  it may be  {told.right}"] if told.right else []
+    bits = [f"  {row}" for row in told.compared()]
     return "\n".join([paint("wrong", headline), "", *marked, "", *told.subject, *bits, *told.facts, ""])
 
 
@@ -180,41 +177,44 @@ def advice(refused: Refused) -> str:
     return text[:1].upper() + text[1:]
 
 
-def why_of(ask: Asking, line: Line) -> Answer:
-    cat, field, data = field_data(line)
-    edited = edit(ask, line) if ask.given.item else None
-    refused = refusal(ask.desk, cat, field)
+def why_of(session: Session, asked: Asked) -> Answer:
+    """Why a field is refused, or an edit of one that is accepted."""
+    cat, field, data = field_data(asked)
+    edited = edit(session, asked) if session.given.item else None
+    refused = refusal(session.desk, cat, field)
     if refused:
-        told = why(ask.desk, cat, field, refused)
+        told = why(session.desk, cat, field, refused)
         return no(
-            {**data, "why": why_data(told)}, refused, f"{why_text(told, str(refused), ask.paint)}{advice(refused)}\n"
+            {**data, "why": why_data(told)},
+            refused,
+            f"{why_text(told, str(refused), session.paint)}{advice(refused)}\n",
         )
     if edited is None or edited.accepted:
         return ok(edited.data if edited else data, f"accepted\n{edited.text if edited else ''}")
-    return why_not(ask, line, edited)
+    return why_not(session, asked, edited)
 
 
-def why_not(ask: Asking, line: Line, edited: Answer) -> Answer:
+def why_not(session: Session, asked: Asked, edited: Answer) -> Answer:
     """Of an edit that the desk refuses, and not the field."""
-    item, new, facts = ask.given.item, new_octets(line, ask.given), []
+    item, new, facts = session.given.item, new_octets(asked, session.given), []
     if edited.data["refused"]["number"] == 13:
-        booked = ", ".join(sorted(listed(line, ask.given.slot, "--slot")))
+        booked = ", ".join(sorted(listed(asked, session.given.slot, "--slot")))
         facts = [f"The slot is booked for {booked}, and {item} is not among them."]
-    told = why_new(ask.desk, line.cat(), item, new) if new and not facts else None
+    told = None if facts else why_new(session.desk, asked.cat(), item, new or b"")
     if told:
-        return Answer(False, {**edited.data, "why": why_data(told)}, why_text(told, edited.complaint, ask.paint))
+        return Answer(False, {**edited.data, "why": why_data(told)}, why_text(told, edited.complaint, session.paint))
     facts = facts or [f"There are no octets for {item}; to take an item away is a removal."]
     return Answer(
         False,
         {**edited.data, "why": {"facts": facts}},
-        "\n".join([ask.paint("wrong", edited.complaint), "", *facts, ""]),
+        "\n".join([session.paint("wrong", edited.complaint), "", *facts, ""]),
     )
 
 
 # ---- commands that write a field, or show an item
 
 
-def listed(line: Line, options: list[str], option: str) -> frozenset[str]:
+def listed(asked: Asked, options: list[str], option: str) -> frozenset[str]:
     """The items of a list for a line's category: `RPC,ERR` is for every category, `48=RPC,ERR` for that one; where
     several are for it, those of all of them."""
     found: set[str] = set()
@@ -222,15 +222,15 @@ def listed(line: Line, options: list[str], option: str) -> frozenset[str]:
         cat, given, names = text.rpartition("=")
         if given and not cat.strip().isdecimal():
             raise Usage(f"{option} {text!r} is no list; one is RPC,ERR or 48=RPC,ERR")
-        if not given or int(cat) == line.cat():
+        if not given or int(cat) == asked.cat():
             found |= {name.strip() for name in names.split(",")} - {""}
     if not found:
-        raise Usage(f"{option} names no items for category {line.cat():03}")
+        raise Usage(f"{option} names no items for category {asked.cat():03}")
     return slot(*found)
 
 
-def new_octets(line: Line, given: argparse.Namespace) -> bytes | None:
-    return None if given.to is None else line.octets(given.to, "an item", 253)
+def new_octets(asked: Asked, given: argparse.Namespace) -> bytes | None:
+    return None if given.to is None else asked.octets(given.to, "an item", NEW)
 
 
 def written(data: Data, call: Callable[..., bytes], *args: Any) -> Answer:
@@ -242,24 +242,26 @@ def written(data: Data, call: Callable[..., bytes], *args: Any) -> Answer:
     return ok({**data, "result": hexed(result)}, f"{data['cat']} {hexed(result)}\n")
 
 
-def edit(ask: Asking, line: Line) -> Answer:
-    cat, field, data = field_data(line)
-    slots, item, new = listed(line, ask.given.slot, "--slot"), ask.given.item, new_octets(line, ask.given)
+def edit(session: Session, asked: Asked) -> Answer:
+    """The field after an edit by a slot."""
+    cat, field, data = field_data(asked)
+    slots, item, new = listed(asked, session.given.slot, "--slot"), session.given.item, new_octets(asked, session.given)
     if new is None:
-        return written(data, ask.desk.remove, cat, field, slots, item)
-    return written(data, ask.desk.replace, cat, field, slots, item, new)
+        return written(data, session.desk.remove, cat, field, slots, item)
+    return written(data, session.desk.replace, cat, field, slots, item, new)
 
 
-def copy(ask: Asking, line: Line) -> Answer:
-    cat, field, data = field_data(line)
-    return written(data, ask.desk.copy, cat, field, listed(line, ask.given.withhold, "--withhold"))
+def copy(session: Session, asked: Asked) -> Answer:
+    """The visitors' copy."""
+    cat, field, data = field_data(asked)
+    return written(data, session.desk.copy, cat, field, listed(asked, session.given.withhold, "--withhold"))
 
 
-def write(ask: Asking, line: Line) -> Answer:
+def write(session: Session, asked: Asked) -> Answer:
     """A record by its keys; `M5N.chain` is the parts of a chain, as on the sheet."""
-    cat = line.cat()
+    cat = asked.cat()
     told: dict[str, int] = {}
-    for word in line.words[1:]:
+    for word in asked.words[1:]:
         key, _, value = word.partition("=")
         if not re.fullmatch("-?[0-9]{1,10}", value):
             raise Usage(f"{shortened(word)!r} is no KEY=NUMBER, as ERR=65536")
@@ -269,36 +271,38 @@ def write(ask: Asking, line: Line) -> Answer:
     parts = {key.removesuffix(".chain"): count for key, count in told.items() if key.endswith(".chain")}
     numbers = {key: number for key, number in told.items() if not key.endswith(".chain")}
     record = Record(cat).changed(numbers, parts) if cat in CATEGORIES else Record(cat)
-    return written({"cat": cat}, ask.desk.write, record)
+    return written({"cat": cat}, session.desk.write, record)
 
 
-def view(ask: Asking, line: Line) -> Answer:
-    cat, field, data = field_data(line)
+def view(session: Session, asked: Asked) -> Answer:
+    """An item's octets, and where they stand."""
+    cat, field, data = field_data(asked)
     try:
-        start, octets = ask.desk.view(cat, field, ask.given.item)
+        start, octets = session.desk.view(cat, field, session.given.item)
     except Refused as refused:
         return no(data, refused)
-    data.update(item=ask.given.item, start=start, octets=hexed(octets))
-    return ok(data, f"{ask.given.item} at octet {start}: {octets.hex(' ').upper()}\n")
+    data.update(item=session.given.item, start=start, octets=hexed(octets))
+    return ok(data, f"{session.given.item} at octet {start}: {octets.hex(' ').upper()}\n")
 
 
-def choose(ask: Asking, line: Line) -> Answer:
-    if len(line.words) != 3:
+def choose(session: Session, asked: Asked) -> Answer:
+    """An item's octets, the field that they are of, and where they stand."""
+    if len(asked.words) != 3:
         raise Usage("a choice is asked as CATEGORY BASE CORRECTION, each field as one word")
-    base, correction = (line.octets(word, "a field", 255) for word in line.words[1:])
-    data: Data = {"cat": line.cat(), "base": hexed(base), "correction": hexed(correction)}
+    base, correction = (asked.octets(word, "a field", FIELD) for word in asked.words[1:])
+    data: Data = {"cat": asked.cat(), "base": hexed(base), "correction": hexed(correction), **behind(base, correction)}
     try:
-        which, start, octets = ask.desk.choose(line.cat(), base, correction, ask.given.item)
+        which, start, octets = session.desk.choose(asked.cat(), base, correction, session.given.item)
     except Refused as refused:
         return no(data, refused)
-    data.update(item=ask.given.item, which=which, start=start, octets=hexed(octets))
-    return ok(data, f"{ask.given.item} of the {which} at octet {start}: {octets.hex(' ').upper()}\n")
+    data.update(item=session.given.item, which=which, start=start, octets=hexed(octets))
+    return ok(data, f"{session.given.item} of the {which} at octet {start}: {octets.hex(' ').upper()}\n")
 
 
-def rebuild(ask: Asking, text: bytes) -> Answer:
+def rebuild(session: Session, text: bytes) -> Answer:
     """The field of a sheet, as a line that every command takes."""
     try:
-        cat, octets = ask.desk.rebuild(text)
+        cat, octets = session.desk.rebuild(text)
     except Refused as refused:
         return no({}, refused)
     return ok({"cat": cat, "result": hexed(octets)}, f"{cat} {hexed(octets)}\n")

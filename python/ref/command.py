@@ -10,11 +10,11 @@ import textwrap
 from collections.abc import Callable, Iterator
 from typing import Any, NamedTuple, NoReturn
 
-from paltinoma import Desk, DeskFailed, UnknownName, slot
+from paltinoma import CATEGORIES, Desk, DeskFailed, UnknownName, slot
 
 from ref import answers
-from ref.answers import Answer, Asking
-from ref.lines import Line, Usage, is_many, lines, texts
+from ref.answers import Answer, Session
+from ref.lines import Asked, Usage, is_many, lines, texts
 from ref.octets import counted
 from ref.page import FOOT, HEAD, page
 from ref.progress import Progress
@@ -32,7 +32,7 @@ class Command(NamedTuple):
 
     does: str
     examples: list[str]
-    answer: Callable[[Asking, Line], Answer] | None  # None is for texts
+    answer: Callable[[Session, Asked], Answer] | None  # None is for texts
     options: str = ""
     words: str = "CATEGORY OCTETS"
     apart: bool = False  # of many answers, a blank line stands between two
@@ -124,16 +124,21 @@ OPTIONS: dict[str, dict[str, Any]] = {
     "withhold": {"metavar": "ITEMS", "action": "append", "help": f"what visitors don't get, {LISTED}"},
     "out": {"metavar": "FILE", "help": "where the page goes, if not to standard output"},
 }
-ABOUT_LINES = """\
-CATEGORY is 48, 21 or 7, and OCTETS are hex, with or without spaces. Or there stand the names of
-files that have many such lines; '-', or nothing, is standard input. Behind a category a file has
-octets alone. Blank lines and those that begin with # are passed over.
-"""
+ABOUT = {
+    "CATEGORY OCTETS": "OCTETS are hex, with or without spaces",
+    "CATEGORY BASE CORRECTION": "BASE and CORRECTION are hex, each one word",
+    "CATEGORY KEY=NUMBER": "a KEY is that of the sheet, its NUMBER decimal",
+}
+ABOUT_LINES = (
+    "CATEGORY is one of {categories}; {words}. Or there stand the names of files that have many such lines; '-', or "
+    "nothing, is standard input. Behind a category a file's lines are without it. Blank lines and those that begin "
+    "with # are passed over."
+)
 ABOUT_TEXTS = """\
 A file is a sheet, or many with a blank line before each but the first; '-', or nothing, is
 standard input.
 """
-ABOUT_STATUS = "exit status: 0 all was accepted, 1 something was refused, 2 it could not be asked so"
+ABOUT_STATUS = "exit status: 0 all was accepted, 1 something was refused, 2 something could not be asked so"
 
 
 class Parser(argparse.ArgumentParser):
@@ -143,19 +148,29 @@ class Parser(argparse.ArgumentParser):
         raise Usage(f"{message} ({self.prog} --help says more)")
 
 
-def told_in_help(description: str, about: str, examples: list[str]) -> dict[str, Any]:
+def about(command: Command) -> str:
+    """What its words are."""
+    if command.answer is None:
+        return ABOUT_TEXTS
+    text = ABOUT_LINES.format(categories=", ".join(map(str, CATEGORIES)), words=ABOUT[command.words])
+    return textwrap.fill(text, 98) + "\n"
+
+
+def told_in_help(description: str, text: str, examples: list[str]) -> dict[str, Any]:
     shown = textwrap.indent("\n".join(examples), "  ")
     return {
         "description": description,
-        "epilog": f"{about}\nexamples:\n{shown}\n\n{ABOUT_STATUS}",
+        "epilog": f"{text}\nexamples:\n{shown}\n\n{ABOUT_STATUS}",
         "formatter_class": argparse.RawDescriptionHelpFormatter,
         "allow_abbrev": False,
     }
 
 
 def top_parser() -> Parser:
-    program = "Reserved Expansion Fields of ASTERIX 048, 021 and 007, answered by the proved program refdesk."
-    top = Parser(prog="ref", **told_in_help(program, ABOUT_LINES, [one.examples[0] for one in COMMANDS.values()]))
+    """It knows the commands by their names, for the help."""
+    program = f"Reserved Expansion Fields of ASTERIX categories {', '.join(f'{cat:03}' for cat in CATEGORIES)}."
+    examples = [command.examples[0] for command in COMMANDS.values()]
+    top = Parser(prog="ref", **told_in_help(program, about(COMMANDS["sheet"]), examples))
     every = top.add_subparsers(dest="command", metavar="COMMAND", required=True)
     for name, command in COMMANDS.items():
         every.add_parser(name, help=command.does)
@@ -163,9 +178,9 @@ def top_parser() -> Parser:
 
 
 def command_parser(name: str) -> Parser:
+    """Its words and options."""
     command = COMMANDS[name]
-    about = ABOUT_LINES if command.answer else ABOUT_TEXTS
-    one = Parser(prog=f"ref {name}", **told_in_help(command.does, about, command.examples))
+    one = Parser(prog=f"ref {name}", **told_in_help(command.does, about(command), command.examples))
     one.add_argument("words", nargs="*", metavar=command.words, help="what is asked about")
     one.add_argument("--json", action="store_true", help="an object of JSON for each, in a line")
     one.add_argument("--program", metavar="PATH", help="refdesk, if not the one that was built or installed with this")
@@ -204,79 +219,108 @@ class Told(NamedTuple):
 
 
 def unasked(wrong: object) -> Answer:
+    """The answer to what can't be asked so."""
     return Answer(False, {"accepted": False, "error": str(wrong)}, complaint=str(wrong), asked=False)
 
 
-def told(ask: Asking, command: Command, words: list[str]) -> Iterator[Told]:
+def told(session: Session, command: Command, words: list[str]) -> Iterator[Told]:
     """The answers to what the words ask about."""
     if command.answer is None:
-        yield from rebuilt(ask, words)
+        yield from rebuilt(session, words)
         return
-    for line in lines(words):
+    for asked in lines(words):
         try:
-            answer = command.answer(ask, line)
+            answer = command.answer(session, asked)
         except (Usage, UnknownName) as wrong:
             answer = unasked(wrong)
-        yield Told(line.where, " ".join(line.words), answer)
+        yield Told(asked.where, " ".join(asked.words), answer)
 
 
-def rebuilt(ask: Asking, words: list[str]) -> Iterator[Told]:
+def rebuilt(session: Session, words: list[str]) -> Iterator[Told]:
     """The answers to texts; a refused one is where its wrong line is."""
     for name, at, text in texts(words):
-        answer = answers.rebuild(ask, text)
+        answer = answers.rebuild(session, text)
         place = 1 if answer.accepted else max(1, answer.data["refused"]["place"])
         yield Told(f"{name}, line {at + place - 1}", "", answer)
 
 
 class Output:
-    """Where the answers go. What goes to a file is written when all is answered, and not before."""
+    """Where the answers go. A file is written when all is answered: beside the one of its name, whose place it takes."""
 
     def __init__(self, given: argparse.Namespace) -> None:
         name = getattr(given, "out", None)
-        self.name = None if name == "-" else name
+        self.name: str | None = None if name == "-" else name
         self.terminal = self.name is None and sys.stdout is not None and sys.stdout.isatty()
         self.page = given.command == "page" and not given.json
-        self.count, self.held = 0, io.StringIO()
+        self.begun, self.held = False, io.StringIO()
 
     def put(self, text: str) -> None:
         if self.name is None and sys.stdout is None:
             raise Usage("there is no standard output")
         to = self.held if self.name else sys.stdout
-        to.write(HEAD + text if self.page and not self.count else text)
+        to.write(text if self.begun or not self.page else HEAD + text)
         to.flush()  # what is asked next may wait for it
-        self.count += 1
+        self.begun = True
 
     def end(self) -> None:
-        if self.page and self.count:
+        if self.page:
             self.put(FOOT)
-        if self.name and self.count:
+        if self.name:
             try:
-                with open(self.name, "w", encoding="utf-8", errors="backslashreplace") as file:
-                    file.write(self.held.getvalue())
+                self.replace(self.name)
             except OSError as error:
                 raise Usage(f"{self.name} can't be written: {error.strerror}") from None
 
-
-def put(one: Told, given: argparse.Namespace, out: Output) -> None:
-    """An answer to the screen, or as JSON; what has no text there to standard error."""
-    many, command, answer = is_many(given.words), COMMANDS[given.command], one.answer
-    if answer.complaint and not (given.json and answer.asked):
-        print(f"ref: {one.where}: {answer.complaint}" if one.where else f"ref: {answer.complaint}", file=sys.stderr)
-    if given.json and (many or answer.asked):
-        out.put(json.dumps({"where": one.where, **answer.data} if one.where else answer.data) + "\n")
-    elif answer.text:
-        gap = "\n" if many and command.apart and out.count else ""
-        heading = f"{one.where}: {one.asked}\n" if many and command.headed else ""
-        out.put(gap + heading + answer.text)
-    if not many and not given.json:
-        note_behind(answer)
+    def replace(self, name: str) -> None:
+        """Writes the file; what is no file, as /dev/full, is written as it is."""
+        special = os.path.exists(name) and not os.path.isfile(name)
+        path = name if special else f"{name}.part"
+        with open(path, "w", encoding="utf-8", errors="backslashreplace") as file:
+            file.write(self.held.getvalue())
+        if not special:
+            os.replace(path, name)
 
 
-def note_behind(answer: Answer) -> None:
-    """Of one field, that more octets were given than belong to it. The map shows them."""
-    field = bytes.fromhex(answer.data.get("field", ""))
-    if answer.accepted and field and len(field) > field[0] and "lines" not in answer.data:
-        print(f"ref: {counted(len(field) - field[0])} behind LEN, not looked at", file=sys.stderr)
+class Run:
+    """The answers of a command, put where they belong: their texts to the output, complaints to standard error."""
+
+    def __init__(self, given: argparse.Namespace) -> None:
+        self.given, self.command, self.many = given, COMMANDS[given.command], is_many(given.words)
+        self.out, self.status = Output(given), ACCEPTED
+        self.behind: list[int] = []  # octets behind LEN, which the map alone shows
+        self.progress = Progress(sys.stderr, self.out.terminal)
+
+    def take(self, one: Told) -> None:
+        """An answer."""
+        answer = one.answer
+        if answer.complaint and not (self.given.json and answer.asked):
+            self.say(f"{one.where}: {answer.complaint}" if one.where else answer.complaint)
+        if self.given.json and (self.many or answer.asked):
+            self.out.put(json.dumps({"where": one.where, **answer.data} if one.where else answer.data) + "\n")
+        elif answer.text and not self.given.json:
+            self.out.put(self.gap() + self.heading(one) + answer.text)
+        self.behind += [answer.data["behind"]] if "behind" in answer.data and "lines" not in answer.data else []
+        self.status = max(self.status, ACCEPTED if answer.accepted else REFUSED if answer.asked else UNASKED)
+        self.progress.step(answer.accepted)
+
+    def gap(self) -> str:
+        return "\n" if self.many and self.command.apart and self.out.begun else ""
+
+    def heading(self, one: Told) -> str:
+        return f"{one.where}: {one.asked}\n" if self.many and self.command.headed else ""
+
+    def say(self, text: str) -> None:
+        self.progress.clear()
+        print(f"ref: {text}", file=sys.stderr)
+
+    def end(self) -> int:
+        if self.out.begun or self.status != UNASKED:
+            self.out.end()
+        if self.behind and not self.given.json:
+            fields = f", of {counted(len(self.behind), 'field')}" if self.many else ""
+            self.say(f"{counted(sum(self.behind))} behind LEN{fields}, not looked at")
+        self.progress.end()
+        return self.status
 
 
 def check(given: argparse.Namespace) -> None:
@@ -295,17 +339,12 @@ def check(given: argparse.Namespace) -> None:
 def run(given: argparse.Namespace) -> int:
     """The answers, one by one; the exit status."""
     check(given)
-    out, status = Output(given), ACCEPTED
-    coloured = out.terminal and "NO_COLOR" not in os.environ and os.environ.get("TERM") != "dumb"
-    progress = Progress(sys.stderr, out.terminal)
+    ran = Run(given)
+    coloured = ran.out.terminal and "NO_COLOR" not in os.environ and os.environ.get("TERM") != "dumb"
     with Desk(given.program) as desk:
-        for one in told(Asking(desk, given, painted(coloured)), COMMANDS[given.command], given.words):
-            put(one, given, out)
-            progress.step(one.answer.accepted)
-            status = max(status, ACCEPTED if one.answer.accepted else REFUSED if one.answer.asked else UNASKED)
-    out.end()
-    progress.end()
-    return status
+        for one in told(Session(desk, given, painted(coloured)), ran.command, given.words):
+            ran.take(one)
+    return ran.end()
 
 
 def main(arguments: list[str]) -> int:

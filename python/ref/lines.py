@@ -10,18 +10,20 @@ import os
 import re
 import sys
 from collections.abc import Iterator
+from contextlib import contextmanager
 from io import TextIOWrapper
 from typing import NamedTuple
 
-MOST = 255  # octets of a field: LEN is one octet
+FIELD = 255  # octets that a field has at most: LEN is one octet
+NEW = 253  # and an item: a field has LEN and the indicator before it
 
 
 class Usage(Exception):
     """What was asked can't be asked so; the text is one line."""
 
 
-class Line(NamedTuple):
-    """Words, and where they stand; '' for the command line itself."""
+class Asked(NamedTuple):
+    """A line of words, and where it stands; '' for the command line itself."""
 
     where: str
     words: list[str]
@@ -38,7 +40,7 @@ class Line(NamedTuple):
         if not self.words[1:]:
             none = "'-'" if self.where else "''"
             raise Usage(f"no octets stand behind the category; {none} stands for none")
-        return self.octets("".join(self.words[1:]), "a field", MOST)
+        return self.octets("".join(self.words[1:]), "a field", FIELD)
 
     def octets(self, text: str, what: str, most: int) -> bytes:
         """Octets in hex, with or without spaces; '-' for none."""
@@ -79,16 +81,16 @@ def is_many(words: list[str]) -> bool:
     return bool(split(words)[1])
 
 
-def lines(words: list[str]) -> Iterator[Line]:
+def lines(words: list[str]) -> Iterator[Asked]:
     """The lines that are asked about. Of `48 FILE`, every line of the file is of category 48."""
     front, names = split(words)
     if not names:
-        yield Line("", front)
+        yield Asked("", front)
     for name in names:
         with opened(name) as file:
             for number, text in enumerate(file, 1):
                 if text.split() and not text.lstrip().startswith("#"):
-                    yield Line(f"{called(name)}, line {number}", front + text.split())
+                    yield Asked(f"{called(name)}, line {number}", front + text.split())
 
 
 def texts(words: list[str]) -> Iterator[tuple[str, int, bytes]]:
@@ -107,12 +109,14 @@ def called(name: str) -> str:
     return "standard input" if name == "-" else name
 
 
-def opened(name: str) -> TextIOWrapper:
+@contextmanager
+def opened(name: str) -> Iterator[TextIOWrapper]:
     """A file of words, with or without a mark of its encoding in front."""
     if name == "-" and sys.stdin is None:
         raise Usage("there is no standard input")
+    file: int | str = sys.stdin.fileno() if name == "-" else name
     try:
-        file: int | str = sys.stdin.fileno() if name == "-" else name
-        return open(file, encoding="utf-8-sig", errors="replace", closefd=name != "-")
+        with open(file, encoding="utf-8-sig", errors="replace", closefd=name != "-") as found:
+            yield found
     except OSError as error:
         raise Usage(f"{name} can't be read: {error.strerror}") from None

@@ -147,18 +147,23 @@ def said(placed: Placed, run: Run, record: Record | None) -> tuple[str, str]:
     if run.flag:
         return f"{run.key} is {'there' if placed.bits(run) else 'absent'}", "flag"
     number = placed.number(run, record)
-    return f"{run.key} = {number}" + ("" if number.text == str(number) else f", {number.text}"), "number"
+    return f"{run.key} = {number}{', ' * bool(beside(number))}{beside(number)}", "number"
+
+
+def beside(number: Number) -> str:
+    """What a number stands for, if that is more than the number."""
+    return "" if number.text == str(number) else number.text
 
 
 def is_wrong(placed: Placed, run: Run, refused: Refused | None) -> bool:
     """Whether a run is why the part or subfield is refused there."""
     if refused is None or placed.at != refused.place:
         return False
-    if refused.number == 6:
-        return run.slot is None and run is not FX and placed.bits(run) != 0
     if refused.number == 8:
         return run.limits is not None and not run.limits[0] <= placed.number(run) <= run.limits[1]
-    return run is FX
+    if refused.number == 7:
+        return run is FX
+    return refused.number == 6 and run in placed.spare and placed.bits(run) != 0
 
 
 def line_rows(placed: Placed, record: Record | None, refused: Refused | None) -> Iterator[Row]:

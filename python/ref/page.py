@@ -6,10 +6,10 @@ from html import escape
 
 from paltinoma import CATEGORIES, Record
 
-from ref.answers import Answer, Asking, advice, beside, field_data, map_data, no, number_data, ok, reading, title
-from ref.lines import Line
-from ref.octets import Row, rows
-from ref.why import Why, why
+from ref.answers import Answer, Session, advice, field_data, map_data, no, number_data, ok, title
+from ref.lines import Asked
+from ref.octets import Row, beside, rows
+from ref.why import Why, reading, why
 
 STYLE = """
 :root { color-scheme: light dark; --dim: #666; --line: #ccc; --wrong: #b00020; --shade: #f3f3f3 }
@@ -46,26 +46,26 @@ HEAD = f"""<!DOCTYPE html>
 FOOT = "</body>\n</html>\n"
 
 
-def page(ask: Asking, line: Line) -> Answer:
+def page(session: Session, asked: Asked) -> Answer:
     """The article of one field."""
-    cat, field, data = field_data(line)
-    record, refused = reading(ask.desk, cat, field)
+    cat, field, data = field_data(asked)
+    record, refused = reading(session.desk, cat, field)
     data.update(map_data(cat, field, record, refused))
     if record is not None:
         data["numbers"] = [number_data(number) for number in record.values()]
-        told = sheet_table(record, ask.desk.sheet(cat, field))
-        return ok(data, article(line, told, rows(cat, field, record, None)))
+        told = sheet_table(record, session.desk.sheet(cat, field))
+        return ok(data, article(asked, told, rows(cat, field, record, None)))
     assert refused is not None
-    told = why_text(why(ask.desk, cat, field, refused))
-    return no(data, refused, article(line, told, rows(cat, field, None, refused)))
+    told = why_text(why(session.desk, cat, field, refused))
+    return no(data, refused, article(asked, told, rows(cat, field, None, refused)))
 
 
-def article(line: Line, told: str, found: list[Row]) -> str:
+def article(asked: Asked, told: str, found: list[Row]) -> str:
     """Heading, where it stands, the octets, what was told, and the map."""
-    where = f"<p><small>{escape(line.where)}</small></p>\n" if line.where else ""
-    octets = f'<p class="octets">{line.field().hex(" ").upper() or "no octets"}</p>\n'
-    octet_map = f"<h2>Octets</h2>\n{map_table(line.cat(), found)}" if found else ""
-    return f"<article>\n<h1>{escape(upper(title(line.cat())))}</h1>\n{where}{octets}{told}{octet_map}</article>\n"
+    where = f"<p><small>{escape(asked.where)}</small></p>\n" if asked.where else ""
+    octets = f'<p class="octets">{asked.field().hex(" ").upper() or "no octets"}</p>\n'
+    octet_map = f"<h2>Octets</h2>\n{map_table(asked.cat(), found)}" if found else ""
+    return f"<article>\n<h1>{escape(upper(title(asked.cat())))}</h1>\n{where}{octets}{told}{octet_map}</article>\n"
 
 
 def upper(text: str) -> str:
@@ -91,7 +91,7 @@ def sheet_table(record: Record, text: str) -> str:
 
 
 def why_text(told: Why) -> str:
-    bits = f"<pre>it is      {told.bits or 'nothing before LEN'}\nit may be  {told.right}</pre>\n" if told.right else ""
+    bits = "<pre>" + escape("\n".join(told.compared())) + "</pre>\n" if told.right else ""
     marked = "\n".join(told.marked())
     paragraphs = "".join(f"<p>{escape(line)}</p>\n" for line in [*told.subject, *told.facts, advice(told.refused)])
     return f'<p class="wrong">{escape(upper(str(told.refused)))}</p>\n<pre>{escape(marked)}</pre>\n{bits}{paragraphs}'

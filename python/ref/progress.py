@@ -27,9 +27,15 @@ class Progress:
         elif self.apart and self.count % EVERY == 0:
             self.to.write(f"{self.line()}\n")
 
+    def clear(self) -> None:
+        """Makes room for another line."""
+        if self.over:
+            self.to.write(f"\r{' ' * len(self.line())} \r")
+
     def end(self) -> None:
         if self.count > LONG:
-            self.to.write(f"{self.over * chr(13)}{self.line()}, all answered\n")
+            self.clear()
+            self.to.write(f"{self.line()}, all answered\n")
 
     def line(self) -> str:
         return f"ref: {self.count:,} asked, {self.refused:,} refused"

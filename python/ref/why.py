@@ -5,10 +5,11 @@ found by the layouts, and what becomes of a field that is mended there is asked 
 """
 from __future__ import annotations
 
+import dataclasses
 from collections.abc import Iterable, Iterator
-from dataclasses import dataclass, field as default
+from dataclasses import dataclass
 
-from paltinoma import CATEGORIES, Desk, Number, Refused, Run
+from paltinoma import CATEGORIES, Desk, Number, Record, Refused, Run
 
 from ref.octets import FX, Placed, counted, is_wrong, mask, read_lines
 
@@ -24,10 +25,10 @@ class Why:
     field: bytes
     refused: Refused
     made: int = 0
-    subject: list[str] = default(default_factory=list)  # what of the paper is concerned, in a sentence
+    subject: list[str] = dataclasses.field(default_factory=list)  # what of the paper is concerned, in a sentence
     bits: str = ""  # as they are there
     right: str = ""  # as they may be: 0 where they must be, x for either
-    facts: list[str] = default(default_factory=list)
+    facts: list[str] = dataclasses.field(default_factory=list)
     mended: bytes | None = None  # the field with what is wrong at the place put right, where that is one way alone
 
     @property
@@ -43,6 +44,11 @@ class Why:
             yield f"{at:4}  {' '.join(octets[at:at + ROW])}"
             if at <= self.place < at + ROW and self.refused.number != 1:
                 yield f"{'':6}{'   ' * (self.place - at)}^^"
+
+    def compared(self) -> list[str]:
+        """The bits as they are, and below them as they may be."""
+        nothing = "nothing" if self.made else "nothing before LEN"
+        return [f"it is      {self.bits or nothing}", f"it may be  {self.right}"] if self.right else []
 
 
 def why(desk: Desk, cat: int, octets: bytes, refused: Refused) -> Why:
@@ -62,16 +68,21 @@ def why_new(desk: Desk, cat: int, item: str, new: bytes) -> Why | None:
     return explained(desk, Why(cat, alone, refused, made=2)) if new and refused else None
 
 
+def reading(desk: Desk, cat: int, octets: bytes) -> tuple[Record | None, Refused | None]:
+    """The record of a field, or its refusal."""
+    try:
+        return desk.read(cat, octets), None
+    except Refused as refused:
+        return None, refused
+
+
 def refusal(desk: Desk, cat: int, octets: bytes) -> Refused | None:
     """The reader's, if there is one."""
-    try:
-        desk.read(cat, octets)
-    except Refused as refused:
-        return refused
-    return None
+    return reading(desk, cat, octets)[1]
 
 
 def explained(desk: Desk, told: Why) -> Why:
+    """What its number says, and what becomes of the mended field."""
     EXPLAINED[told.refused.number](told)
     if told.mended is not None:
         told.facts.append(after(desk, told, told.mended))
@@ -83,7 +94,8 @@ def after(desk: Desk, told: Why, mended: bytes) -> str:
     changed = [k for k in range(len(mended)) if told.field[k] != mended[k]]
     put = mended[changed[0] : changed[-1] + 1].hex(" ").upper()
     next_one = refusal(desk, told.cat, mended)
-    verdict = "accepted" if next_one is None else str(next_one).replace(":", ",")
+    shown = Refused(next_one.number, next_one.place - told.made) if next_one else None
+    verdict = str(shown).replace(":", ",") if shown else "accepted"
     return f"With {put} at octet {changed[0] - told.made} it is {verdict}."
 
 
@@ -91,10 +103,12 @@ def after(desk: Desk, told: Why, mended: bytes) -> str:
 
 
 def unknown(told: Why) -> None:
+    """1: no paper has the category."""
     told.facts.append(f"The categories are {', '.join(map(str, CATEGORIES))}.")
 
 
 def short(told: Why) -> None:
+    """2: the field is empty, or shorter than LEN."""
     if not told.field:
         told.facts.append("There are no octets; a field has LEN and the items indicator at least.")
         return
@@ -107,6 +121,7 @@ def short(told: Why) -> None:
 
 
 def small(told: Why) -> None:
+    """3: LEN is 0 or 1."""
     told.subject = ["Octet 0 is LEN, the length of the whole field."]
     told.facts.append("LEN counts itself and the items indicator, so it is 2 or more.")
     if 1 < len(told.field) <= CATEGORIES[told.cat].longest:
@@ -114,15 +129,17 @@ def small(told: Why) -> None:
 
 
 def indicator(told: Why) -> None:
+    """4: a spare bit of the indicator is set."""
     category = CATEGORIES[told.cat]
-    spare = mask(category.spare)
+    fixed = mask(category.spare)
     told.subject = [f"Octet 1 is the items indicator (document {category.document}, {category.section})."]
-    told.bits, told.right = f"{told.field[1]:08b}", pattern(spare, 1)
+    told.bits, told.right = f"{told.field[1]:08b}", pattern(fixed, 1)
     told.facts.append(set_bits(category.spare, told.field[1]))
-    told.mended = told.field[:1] + bytes([told.field[1] & ~spare]) + told.field[2:]
+    told.mended = told.field[:1] + bytes([told.field[1] & ~fixed]) + told.field[2:]
 
 
 def cut(told: Why) -> None:
+    """5: a part or subfield is not wholly before LEN."""
     placed = found(told)
     there = counted(len(placed.octets)).replace("no octets", "none")
     if told.made:
@@ -134,6 +151,7 @@ def cut(told: Why) -> None:
 
 
 def spare(told: Why) -> None:
+    """6: a spare bit of a part or subfield is set."""
     placed = found(told)
     told.facts.append(set_bits(placed.spare, int.from_bytes(placed.octets, "big")))
     if placed.last and placed.bits(FX):
@@ -142,12 +160,14 @@ def spare(told: Why) -> None:
 
 
 def goes_on(told: Why) -> None:
+    """7: FX is set in the last part."""
     placed = found(told)
     told.facts.append(no_more_parts(placed))
     told.mended = cleared(told.field, placed)
 
 
 def out_of_range(told: Why) -> None:
+    """8: a number is out of its range."""
     placed = found(told)
     told.right = ""  # every bit may be either; it is the number that may not
     for run in placed.line.runs:
@@ -159,6 +179,7 @@ def out_of_range(told: Why) -> None:
 
 
 def left_over(told: Why) -> None:
+    """9: octets are left before LEN."""
     names = [item.name for item in CATEGORIES[told.cat].items if told.field[1] & item.bit]
     left = told.field[0] - told.refused.place
     if told.made:

@@ -295,57 +295,35 @@ class Json(InFolder):
     def told(self, *words):
         return json.loads(self.ref(*words)[1])
 
-    def test_by_hand(self):
-        self.assertEqual(
-            self.told("sheet", "--json", "48", "062806010000"),
-            {
-                "accepted": True,
-                "cat": 48,
-                "field": "062806010000",
-                "len": 6,
-                "items": ["M4E", "ERR"],
-                "numbers": {"M4E": 3, "ERR": 65536},
-            },
-        )
-        self.assertEqual(
-            self.told("sheet", "--json", "21", "04800FFF")["numbers"],
-            {"BPS": 4095, "BPS.tenths": 12095, "BPS.sense": "atleast"},
-        )
-        self.assertEqual(
-            self.told("read", "--json", "21", "04800FFF")["numbers"],
-            [{"key": "BPS", "number": 4095, "value": 1209.5, "unit": "hPa", "sense": "atleast"}],
-        )
+    def test_sheet(self):
+        asked = {"accepted": True, "cat": 48, "field": "062806010000"}
+        numbers = {"len": 6, "items": ["M4E", "ERR"], "numbers": {"M4E": 3, "ERR": 65536}}
+        self.assertEqual(self.told("sheet", "--json", "48", "062806010000"), {**asked, **numbers})
+        pressure = {"BPS": 4095, "BPS.tenths": 12095, "BPS.sense": "atleast"}
+        self.assertEqual(self.told("sheet", "--json", "21", "04800FFF")["numbers"], pressure)
+
+    def test_read(self):
+        pressure = {"key": "BPS", "number": 4095, "value": 1209.5, "unit": "hPa", "sense": "atleast"}
+        self.assertEqual(self.told("read", "--json", "21", "04800FFF")["numbers"], [pressure])
+        code = self.told("read", "--json", "21", "0501040280")["numbers"][-1]
+        self.assertEqual(code, {"key": "MES.M2.M2", "number": 640, "octal": "1200"})
         self.assertEqual(self.told("read", "--json", "48", "04400100")["items"], [{"name": "M5N", "parts": 2}])
-        self.assertEqual(
-            self.told("edit", "--json", "--slot", "ERR", "--item", "ERR", "--to", "020000", "48", "062806010000"),
-            {"accepted": True, "cat": 48, "field": "062806010000", "result": "062806020000"},
-        )
-        self.assertEqual(
-            self.told("map", "--json", "48", "048004FF")["lines"][1],
-            {
-                "at": 3,
-                "octets": "FF",
-                "item": "MD5",
-                "line": "TOS",
-                "runs": [
-                    {
-                        "hi": 8,
-                        "lo": 1,
-                        "bits": "11111111",
-                        "kind": "number",
-                        "key": "MD5.TOS",
-                        "number": -1,
-                        "value": -0.0078125,
-                        "unit": "s",
-                        "sense": "equal",
-                    }
-                ],
-            },
-        )
-        why = self.told("why", "--json", "48", "03200F")
-        self.assertEqual(
-            (why["refused"]["number"], why["why"]["may_be"], why["why"]["mended"]), (6, "00000xx0", "032006")
-        )
+
+    def test_edit(self):
+        edit = ["edit", "--json", "--slot", "ERR", "--item", "ERR", "--to", "020000", "48", "062806010000"]
+        wanted = {"accepted": True, "cat": 48, "field": "062806010000", "result": "062806020000"}
+        self.assertEqual(self.told(*edit), wanted)
+
+    def test_map(self):
+        number = {"key": "MD5.TOS", "number": -1, "value": -0.0078125, "unit": "s", "sense": "equal"}
+        run = {"hi": 8, "lo": 1, "bits": "11111111", "kind": "number", **number}
+        line = {"at": 3, "octets": "FF", "item": "MD5", "line": "TOS", "runs": [run]}
+        self.assertEqual(self.told("map", "--json", "48", "048004FF")["lines"][1], line)
+
+    def test_why(self):
+        told = self.told("why", "--json", "48", "03200F")
+        self.assertEqual((told["refused"]["number"], told["why"]["may_be"]), (6, "00000xx0"))
+        self.assertEqual(told["why"]["mended"], "032006")
 
 
 class Words(InFolder):
@@ -364,7 +342,12 @@ class Words(InFolder):
             (status, told.splitlines()[1], said), (0, "len=3", "ref: 5 octets behind LEN, not looked at\n")
         )
         self.assertEqual(self.ref("map", "48", "032006FF")[2], "")
-        self.assertEqual(json.loads(self.ref("map", "--json", "48", "032006FF")[1])["behind"], "FF")
+        self.assertEqual(json.loads(self.ref("sheet", "--json", "48", "03200FAABB")[1])["behind"], 2)
+        choose = ["choose", "--item", "M4E", "48", "032006AA", "032004BB"]
+        self.assertEqual(self.ref(*choose)[2], "ref: 2 octets behind LEN, not looked at\n")
+        day = self.file("48 032006AA\n48 0200\n48 0200BBCC\n")
+        said = "ref: 3 octets behind LEN, of 2 fields, not looked at\n"
+        self.assertEqual(self.ref("copy", "--withhold", "ERR", day), (0, "48 032006\n48 0200\n48 0200\n", said))
 
     def test_streams_that_are_not_there(self):
         for command, said in (
@@ -464,10 +447,16 @@ class OneLine(InFolder):
 
 class Terminal(InFolder):
     def on_terminal(self, *words, **env):
-        """What a person sees."""
+        """What a person sees, and the exit status."""
+        return self.seen([str(REF), *words], env)
+
+    def on_shell(self, command):
+        return self.seen(["/bin/sh", "-c", command], {})
+
+    def seen(self, command, env):
         pid, fd = pty.fork()
         if pid == 0:
-            os.execve(REF, [str(REF), *words], {**ENVIRONMENT, "TERM": "xterm", **env})
+            os.execve(command[0], command, {**ENVIRONMENT, "TERM": "xterm", **env})
         told = b""
         try:
             while piece := os.read(fd, 65536):
@@ -489,9 +478,18 @@ class Terminal(InFolder):
         """Where the answers go elsewhere; where they go to the terminal, they are the progress."""
         day = self.folder / self.file("48 0200\n" * 12000)
         _, told = self.on_terminal("page", "--out", str(self.folder / "page.html"), str(day))
-        self.assertRegex(told, r"^(\rref: [\d,]+ asked, 0 refused )+\rref: 12,000 asked, 0 refused, all answered\n$")
+        self.assertRegex(
+            told, r"^(\rref: [\d,]+ asked, 0 refused )+\r +\rref: 12,000 asked, 0 refused, all answered\n$"
+        )
         _, told = self.on_terminal("copy", "--withhold", "ERR", str(day))
         self.assertEqual(told, "48 0200\n" * 12000 + "ref: 12,000 asked, 0 refused, all answered\n")
+
+    def test_complaints_have_lines_of_their_own(self):
+        day = self.folder / self.file("48 0200\n" * 3000 + "48 0280\n" + "48 0200\n" * 3000)
+        out = self.folder / "out"
+        _, told = self.on_shell(f"'{REF}' read '{day}' > '{out}'")
+        said = "ref: .*, line 3001: refused by 5 at octet 2: chain part or subfield not wholly before LEN\n"
+        self.assertRegex(told, rf"(^|\r){said}")
 
     def test_interrupted(self):
         """Ctrl-C ends it without a trace of Python."""

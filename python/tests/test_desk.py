@@ -3,6 +3,7 @@ tests/reference.py."""
 import doctest
 import random
 import unittest
+from fractions import Fraction
 
 import paltinoma
 import reference
@@ -218,6 +219,10 @@ class Names(WithDesk):
         ):
             self.assertRaises(ValueError, call)
         self.assertRaises(TypeError, self.desk.read, "48", BASE)
+        self.assertRaises(TypeError, self.desk.read, 48.7, BASE)
+        self.assertRaises(TypeError, self.desk.write, Record(21).changed({"BPS": Fraction(10132, 10)}))
+        self.assertRaises(TypeError, self.desk.write, Record(48).changed({"ERR": 1.9}))
+        self.assertRaises(TypeError, self.desk.copy, 48, BASE, slot(), 52.5)
         self.assertRaises(TypeError, self.desk.read, 48, 6)
         self.assertRaises(TypeError, self.desk.read, 48, "0200")
         self.assertEqual(self.desk.read(48, BASE)["M4E"], 3)  # and the desk goes on

@@ -5,10 +5,11 @@ import signal
 import stat
 import sys
 import threading
+import time
 import unittest
 from unittest import mock
 
-from paltinoma import Desk, DeskFailed, DeskMissing, Refused, slot
+from paltinoma import Desk, DeskFailed, DeskMissing, Record, Refused, slot
 
 from tests.given import BASE, InFolder
 
@@ -60,7 +61,7 @@ class Failing(InFolder):
             os.environ.pop("REFDESK", None)
             with self.assertRaisesRegex(DeskMissing, "there is no refdesk: put it on the PATH"):
                 Desk()
-            self.file("", "Makefile")
+            self.file("", "crates.txt")
             with self.assertRaisesRegex(DeskMissing, "refdesk is not built yet: `make` in"):
                 Desk()
 
@@ -104,6 +105,9 @@ class Failing(InFolder):
             ("ok 3 3 3 010000\n", "choose", 48, BASE, BASE, "ERR"),
             ("ok 0 3 3 010000\n", "choose", 48, BASE, BASE, "ERR"),
             ("ok 062806010000\n", "rebuild", "x"),
+            ("refused 13 0 2\n", "remove", 48, BASE, slot("ERR"), "ERR"),
+            ("refused 15 0\n", "choose", 48, BASE, BASE, "ERR"),
+            ("refused 6 -1\n", "read", 48, BASE),
             ("ok\n", "sheet", 48, BASE),
             ("ok cat=48 len=6 end=ok\n", "sheet", 48, BASE),
             ("ok cat=48 len=6 items=ERR ERR end=ok\n", "sheet", 48, BASE),
@@ -166,6 +170,49 @@ class Failing(InFolder):
                     os._exit(42)
             self.assertEqual(os.waitstatus_to_exitcode(os.waitpid(child, 0)[1]), 42)
             self.assertEqual(desk.read(48, BASE)["ERR"], 65536)
+
+    def test_forked_while_it_is_asked(self):
+        """A forked process does not wait for a turn that nobody in it gives back."""
+        with Desk(self.program("for line in sys.stdin: time.sleep(1); print('refused 1 0', flush=True)")) as desk:
+            asked = threading.Thread(target=self.assertRaises, args=(Refused, desk.read, 48, BASE))
+            asked.start()
+            time.sleep(0.3)
+            child = os.fork()
+            if child == 0:
+                try:
+                    desk.read(48, BASE)
+                except DeskFailed:
+                    desk.close()
+                os._exit(42)
+            self.assertEqual(os.waitstatus_to_exitcode(os.waitpid(child, 0)[1]), 42)
+            asked.join()
+
+    def test_nothing_behind_a_garbled_answer(self):
+        """A thread that waits for its turn does not get what follows an answer that is none."""
+        got = []
+
+        def ask(desk):
+            try:
+                got.append(desk.remove(48, BASE, slot("ERR"), "ERR"))
+            except DeskFailed:
+                got.append(None)
+
+        with Desk(
+            self.program("sys.stdin.readline(); time.sleep(0.5); print('ok x\\nok 0200\\nok 0200', flush=True)")
+        ) as desk:
+            threads = [threading.Thread(target=ask, args=(desk,)) for _ in range(3)]
+            for thread in threads:
+                thread.start()
+            for thread in threads:
+                thread.join()
+        self.assertEqual(got, [None, None, None])
+
+    def test_closed_refuses_nothing(self):
+        """Also what is refused without being sent."""
+        desk = Desk()
+        desk.close()
+        self.assertRaises(DeskFailed, desk.rebuild, "x" * 40000)
+        self.assertRaises(DeskFailed, desk.write, Record(48, 256))
 
     def test_closed_twice(self):
         desk = Desk()

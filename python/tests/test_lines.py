@@ -5,7 +5,7 @@ import subprocess
 import unittest
 from pathlib import Path
 
-from ref.lines import Line, Usage, lines, texts
+from ref.lines import Asked, Usage, lines, texts
 
 from tests.given import InFolder
 
@@ -67,6 +67,7 @@ class Lines(Here):
             (["9" * 100, "0200"], f"'{'9' * 40}..' {category}"),
             (["nowhere"], "nowhere can't be read: No such file or directory"),
             (["."], ". can't be read: Is a directory"),
+            (["/proc/self/mem"], "/proc/self/mem can't be read: Input/output error"),
         ]
         for words, said in rows:
             with self.assertRaises(Usage) as caught:
@@ -87,7 +88,7 @@ class Lines(Here):
             self.assertEqual(str(caught.exception), said)
 
     def test_255_octets(self):
-        self.assertEqual(len(Line("", ["48", "00" * 255]).field()), 255)
+        self.assertEqual(len(Asked("", ["48", "00" * 255]).field()), 255)
 
 
 class Texts(Here):

@@ -34,6 +34,23 @@ def lines_in(cat, field):
                 yield name, sub, octets, defined, False
 
 
+def lines_before(cat, field, place):
+    """(item, part or subfield) of each line that begins before a place or there, by the papers: as the octets announce them."""
+    at = 2
+    for name, parts, subs in (item for i, item in enumerate(PAPERS[cat]) if field[1] >> 7 - i & 1):
+        flags, more = [], bool(parts)
+        for k, (octets, defined) in enumerate(parts):
+            if more and at <= place:
+                yield name, f"part {k + 1}"
+                whole = int.from_bytes(field[at : at + octets], "big")
+                flags += [reference.value_of(number, whole) for number in defined]
+                more, at = whole & 1, at + octets
+        for k, (sub, octets, _) in enumerate(subs):
+            if at <= place and (not parts or flags[k : k + 1] == [1]):
+                yield name, sub
+                at += octets
+
+
 def bit_kinds(octets, defined, chain):
     """Of each bit of a line, the highest first: the number that it is of, None for spare, 'FX'."""
     kinds = {bit: name for name, hi, lo, _ in defined for bit in range(lo, hi + 1)}
@@ -109,15 +126,19 @@ class Maps(WithDesk):
             if refused is None:
                 continue
             got = read_lines(cat, field, refused)
-            places = [placed.at for placed in got]
-            self.assertEqual(places, sorted(set(places)))
-            if refused.number in (5, 6, 7, 8):
-                self.assertEqual(places[-1], refused.place)
-                self.assertEqual(got[-1].whole, refused.number != 5)
-            elif refused.number == 9:
-                self.assertEqual(places[-1] + got[-1].line.octets if got else 2, refused.place)
-            else:
+            if refused.number < 5:
                 self.assertEqual(got, [])
+                continue
+            names = [(placed.item.name, placed.line.name) for placed in got]
+            place = refused.place - (refused.number == 9)
+            self.assertEqual(names, list(lines_before(cat, field, place)))
+            self.assertEqual(
+                [placed.at for placed in got], [2, *(one.at + one.line.octets for one in got)][:-1] if got else []
+            )
+            if refused.number == 9:
+                self.assertEqual(got[-1].at + got[-1].line.octets if got else 2, refused.place)
+            else:
+                self.assertEqual((got[-1].at, got[-1].whole), (refused.place, refused.number != 5))
 
     def test_by_hand(self):
         """01's edge `05 40 01 80 1F`: two parts, and FOM in bits 5/1 of its subfield."""
@@ -151,7 +172,7 @@ class Maps(WithDesk):
             (48, "032007", (2, "", ".......1", "", "FX = 1, no other part is defined", "wrong")),
             (48, "03200F", (2, "0F", "00001...", "M4E part 1", "spare, must be 0", "wrong")),
             (48, "060801000000", (5, "00", "00000000", "", "left over", "wrong")),
-            (48, "0280AA", (3 - 1, "--", "", "MD5 part 1", "1 octet should stand here before LEN", "wrong")),
+            (48, "0280AA", (2, "--", "", "MD5 part 1", "1 octet should stand here before LEN", "wrong")),
             (48, "0280AA", (2, "AA", "10101010", "", "behind LEN, not looked at", "behind")),
             (49, "0200", (0, "02", "00000010", "LEN", "2 octets", "head")),
             (49, "0200", (1, "00", "00000000", "", "not read", "unread")),

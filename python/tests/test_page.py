@@ -73,13 +73,15 @@ class Pages(InFolder):
             (cat, good_field(cat, rng)) for cat in (48, 21, 7) for _ in range(5)
         ]
 
-    def has_sheets(self, fields, cells):
-        """Every line of every sheet, key and value in two cells, in turn."""
-        for cat, field in fields:
-            lines = reference.sheet(bytes([cat]) + field).splitlines()
-            self.assertTrue(
-                in_turn([part.strip() for line in lines for part in line.split("=")], cells), (cat, field.hex())
-            )
+    def has_sheets(self, fields, html):
+        """Of each article: every line of the sheet, key and value, and no other."""
+        articles = html.split("<article>")[1:]
+        self.assertEqual(len(articles), len(fields))
+        for (cat, field), text in zip(fields, articles):
+            table = re.search("<h2>Sheet</h2>.*?<table>(.*?)</table>", text, re.S)[1]
+            found = [Page(f"<table>{row}</table>").cells[:2] for row in re.findall("<tr>.*?</tr>", table, re.S)]
+            wanted = [line.split("=") for line in reference.sheet(bytes([cat]) + field).splitlines()]
+            self.assertEqual([[cell.strip() for cell in cells] for cells in found], wanted)
 
 
 class AsText(Pages):
@@ -97,8 +99,7 @@ class AsText(Pages):
 
     def test_numbers(self):
         fields = self.fields()
-        cells = Page(self.page(self.day(fields))).cells
-        self.has_sheets(fields, cells)
+        self.has_sheets(fields, self.page(self.day(fields)))
         told = Page(self.page("48", "062806010000")).cells
         self.assertTrue(
             in_turn(
@@ -142,6 +143,11 @@ class AsText(Pages):
             Page(self.page("48", octets, status=1))
         Page(self.page("49", "0200", status=1))
 
+    def test_no_fields(self):
+        """A page without fields takes the place of an older one, too."""
+        self.file("an older page", "page.html")
+        self.assertEqual(Page(self.page(self.file("# none\n"))).cells, [])
+
     def test_words_stay_as_they_are(self):
         self.assertIn("Refused by 3 at octet 0: LEN is 0 or 1\n", Page(self.page("48", "0100", status=1)).cells)
 
@@ -171,7 +177,7 @@ class InABrowser(Pages):
         """As the browser has them after it took the page apart."""
         fields = self.fields()
         self.page(self.day(fields))
-        self.has_sheets(fields, Page(self.browser("--dump-dom", "page.html")).cells)
+        self.has_sheets(fields, self.browser("--dump-dom", "page.html"))
 
     def test_print(self):
         self.page(self.day(self.fields()))

@@ -192,6 +192,11 @@ class ByHand(Explained):
         told = why_new(self.desk, 48, "M5N", b"\1\x80\x3f")
         self.assertEqual(told.subject, ["At octet 2 stands M5N FOM (document 000, 2.4: Mode 5 Reports, New Format)."])
         self.assertEqual(told.facts, ["Bit 6 is spare and must be 0.", "With 1F at octet 2 it is accepted."])
+        told = why_new(self.desk, 48, "M5N", b"\1\xc0\x20")
+        said = "With 80 at octet 1 it is refused by 6 at octet 2, spare bit set in a chain part or subfield."
+        self.assertEqual(told.facts, ["Bit 7 is spare and must be 0.", said])
+        told = why_new(self.desk, 48, "M5N", b"\1")
+        self.assertEqual(told.compared(), ["it is      nothing", "it may be  x0000000"])
         self.assertIsNone(why_new(self.desk, 48, "ERR", b""))
         self.assertIsNone(why_new(self.desk, 48, "ERR", b"\2\0\0"))
 
@@ -233,19 +238,21 @@ class Seeded(WithDesk):
             self.assertEqual(
                 others, {other for other in PAPERS if other != cat and reference.read(other, field)[0] == "ok"}
             )
-            self.mended(told, [fact for fact in told.facts if fact.startswith("With ")])
+            self.mended(told)
         self.assertGreater(count, SEEDED / 2)
 
-    def mended(self, told, claims):
+    def mended(self, told):
+        """What is said of the mended field: of new octets, counted from the first of these."""
+        claims = [fact for fact in told.facts if fact.startswith("With ")]
         if told.mended is None:
             return self.assertEqual(claims, [])
         octets, at, said = re.fullmatch(r"With ([0-9A-F ]+) at octet (\d+) it is (.*)\.", claims[0]).groups()
-        put = bytes.fromhex(octets)
-        self.assertEqual(told.field[: int(at)] + put + told.field[int(at) + len(put) :], told.mended)
+        put, place = bytes.fromhex(octets), int(at) + told.made
+        self.assertEqual(told.field[:place] + put + told.field[place + len(put) :], told.mended)
         got = reference.read(told.cat, told.mended)
         if got[0] == "ok":
             return self.assertEqual(said, "accepted")
-        self.assertRegex(said, rf"^refused by {got[1]} at octet {got[2]}, ")
+        self.assertRegex(said, rf"^refused by {got[1]} at octet {got[2] - told.made}, ")
         self.assertNotEqual(got[1:], (told.refused.number, told.refused.place))
 
     def test_patterns(self):
@@ -277,6 +284,7 @@ class Seeded(WithDesk):
                 told = why_new(self.desk, cat, name, new)
                 alone = bytes([len(new) + 2, 0x80 >> number - 1]) + new
                 self.assertEqual(("refused", told.refused.number, told.refused.place), reference.read(cat, alone))
+                self.mended(told)
                 count += 1
         self.assertGreater(count, 100)
 

@@ -12,7 +12,7 @@ enum { LINE = 1 << 17, WORDS = 100, ROOM = 300 };
 
 static char line[LINE];
 static char *words[WORDS];
-static uint8_t octets[3][LINE / 2];
+static uint8_t octets[2][LINE / 2];
 static uint8_t out[ROOM];
 
 /* ---- words */
@@ -34,7 +34,7 @@ static uint8_t list(size_t word)
     return (uint8_t)strtol(words[word], NULL, 16);
 }
 
-/* The octets of a word of hex, into one of three buffers; how many they are. */
+/* The octets of a word of hex, into one of the two buffers; how many they are. */
 static size_t hex(size_t word, size_t into)
 {
     char pair[3] = {0};

@@ -1,4 +1,7 @@
-/* Reads a field of category 048, replaces its item ERR by a slot that was booked for RPC and ERR, and prints both fields. */
+/*
+ * Reads a field of category 048, replaces its item ERR by a slot that was booked for RPC and ERR, and prints both fields; and
+ * what that slot is told when it takes M4E away.
+ */
 #include "refdesk.h"
 
 #include <stdio.h>
@@ -11,15 +14,21 @@ static void print_field(const char *name, const uint8_t *field, size_t n)
     printf("\n");
 }
 
+/* Whether an answer is a refusal; then it is printed. */
+static int refused(uint64_t word)
+{
+    if (REF_NUMBER(word) == REF_ACCEPTED)
+        return 0;
+    printf("refused by %u at %zu: %s\n", REF_NUMBER(word), REF_PLACE(word), ref_words(REF_NUMBER(word)));
+    return 1;
+}
+
 /* The items of a field, and the numbers that are not 0 with their slots. */
 static int print_record(const uint8_t *field, size_t n)
 {
     int32_t record[REF_RECORD_PLACES];
-    uint64_t word = ref_read(48, field, n, record, REF_RECORD_PLACES);
-    if (REF_NUMBER(word) != REF_ACCEPTED) {
-        printf("refused by %u at %zu: %s\n", REF_NUMBER(word), REF_PLACE(word), ref_words(REF_NUMBER(word)));
+    if (refused(ref_read(48, field, n, record, REF_RECORD_PLACES)))
         return 1;
-    }
     printf("  items %02X", (unsigned)record[REF_RECORD_ITEMS]);
     for (int i = REF_RECORD_NUMBERS; i < REF_RECORD_PLACES; i++)
         if (record[i] != 0)
@@ -39,15 +48,17 @@ int main(void)
     if (print_record(field, sizeof field) != 0)
         return 1;
 
-    uint64_t view = ref_view(48, field, sizeof field, item);
-    print_field("item 5", field + REF_START(view), REF_LENGTH(view));
+    uint64_t word = ref_view(48, field, sizeof field, item);
+    if (refused(word))
+        return 1;
+    print_field("item 5", field + REF_START(word), REF_LENGTH(word));
 
-    uint64_t word = ref_replace(48, field, sizeof field, list, item, err, sizeof err, out, sizeof out);
+    word = ref_replace(48, field, sizeof field, list, item, err, sizeof err, out, sizeof out);
+    if (refused(word))
+        return 1;
     print_field("edited", out, REF_LENGTH(word));
     if (print_record(out, REF_LENGTH(word)) != 0)
         return 1;
 
-    word = ref_remove(48, field, sizeof field, list, REF_ITEM_048_M4E, out, sizeof out);
-    printf("M4E removed: %s\n", ref_words(REF_NUMBER(word)));
-    return 0;
+    return !refused(ref_remove(48, field, sizeof field, list, REF_ITEM_048_M4E, out, sizeof out));
 }
