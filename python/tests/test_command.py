@@ -1,4 +1,5 @@
 """`ref` as a person starts it: what it prints, what it says on standard error in one line, and its exit status."""
+import io
 import json
 import os
 import pty
@@ -9,11 +10,12 @@ import sys
 import threading
 import time
 import unittest
+from unittest import mock
 
 import reference
 from fields import good_field
 from papers import PAPERS
-from ref.command import COMMANDS
+from ref.command import COMMANDS, Run, parsed
 
 from tests.given import ENVIRONMENT, REF, InFolder
 
@@ -343,6 +345,7 @@ class Words(InFolder):
         )
         self.assertEqual(self.ref("map", "48", "032006FF")[2], "")
         self.assertEqual(json.loads(self.ref("sheet", "--json", "48", "03200FAABB")[1])["behind"], 2)
+        self.assertNotIn("behind", json.loads(self.ref("sheet", "--json", "48", "010203")[1]))
         choose = ["choose", "--item", "M4E", "48", "032006AA", "032004BB"]
         self.assertEqual(self.ref(*choose)[2], "ref: 2 octets behind LEN, not looked at\n")
         day = self.file("48 032006AA\n48 0200\n48 0200BBCC\n")
@@ -358,8 +361,10 @@ class Words(InFolder):
         ):
             ended = subprocess.run(["sh", "-c", f"'{REF}' {command}"], capture_output=True, text=True, env=ENVIRONMENT)
             self.assertEqual((ended.returncode, ended.stdout, ended.stderr), (2, "", said), command)
-        ended = subprocess.run(["sh", "-c", f"'{REF}' view --item ERR 48 0200 2>&-"], capture_output=True, text=True)
-        self.assertEqual((ended.returncode, ended.stdout), (1, ""))
+        for words, wanted in (("copy --withhold ERR 48 0200", (0, "48 0200\n")), ("view --item ERR 48 0200", (1, ""))):
+            quiet = f"exec '{sys.executable}' '{REF}' {words} 2>&-"
+            ended = subprocess.run(["sh", "-c", quiet], capture_output=True, text=True, env=ENVIRONMENT)
+            self.assertEqual((ended.returncode, ended.stdout), wanted)
 
     def test_names_that_are_no_text(self):
         name = os.fsdecode(b"bad\xff.txt")
@@ -434,6 +439,14 @@ class OneLine(InFolder):
         self.assertEqual((self.folder / "day.txt").read_text().count("<article>"), 500)
         self.assertIn("<article>", self.ref("page", "--out", "-", "48", "0200")[1])
 
+    def test_page_takes_a_place(self):
+        """It is another file that has the name then: who has the older one open has it whole."""
+        older = self.folder / self.file("another page", "page.html")
+        os.link(older, self.folder / "kept.html")
+        self.assertEqual(self.ref("page", "--out", "page.html", "48", "0200"), (0, "", ""))
+        self.assertIn("<article>", older.read_text())
+        self.assertEqual((self.folder / "kept.html").read_text(), "another page")
+
     def test_program(self):
         self.said(
             ["sheet", "--program", "/nowhere/refdesk", "48", "0200"],
@@ -485,9 +498,24 @@ class Terminal(InFolder):
         self.assertEqual(told, "48 0200\n" * 12000 + "ref: 12,000 asked, 0 refused, all answered\n")
 
     def test_complaints_have_lines_of_their_own(self):
+        """The line that is written over makes room for one."""
+
+        class Screen(io.StringIO):
+            def isatty(self):
+                return True
+
+        line = "ref: 2 asked, 1 refused"
+        with mock.patch("sys.stderr", Screen()) as screen, mock.patch("sys.stdout", io.StringIO()):
+            with mock.patch("ref.progress.LONG", 1), mock.patch("ref.progress.PAUSE", -1):
+                run = Run(parsed(["read", "day.txt"]))
+                run.progress.step(True)
+                run.progress.step(False)
+                run.say("this")
+        self.assertEqual(screen.getvalue(), f"\r{line} \r{' ' * len(line)} \rref: this\n")
+
+    def test_complaints_among_answers(self):
         day = self.folder / self.file("48 0200\n" * 3000 + "48 0280\n" + "48 0200\n" * 3000)
-        out = self.folder / "out"
-        _, told = self.on_shell(f"'{REF}' read '{day}' > '{out}'")
+        _, told = self.on_shell(f"'{REF}' read '{day}' > '{self.folder}/out'")
         said = "ref: .*, line 3001: refused by 5 at octet 2: chain part or subfield not wholly before LEN\n"
         self.assertRegex(told, rf"(^|\r){said}")
 
