@@ -26,13 +26,14 @@ td.bits, td.key, td.number { white-space: nowrap; width: 1% } td.number { text-a
 .spare, .flag, .behind { color: var(--dim) }
 .wrong { color: var(--wrong) } p.wrong { font-weight: 600 } tr.wrong td:first-child::before { content: ">" }
 .unread { color: var(--dim); font-style: italic }
-pre { overflow-x: auto } p { overflow-wrap: anywhere } small { color: var(--dim); font-weight: 400 }
+pre { white-space: pre-wrap } p { overflow-wrap: anywhere } small { color: var(--dim); font-weight: 400 }
 @media print {
   :root { color-scheme: light; --dim: #444; --line: #999; --wrong: #000; --shade: #eee }
   body { font-size: 9pt; line-height: 1.2; max-width: none; padding: 0 } td, th { padding-bottom: 0; padding-top: 0 }
   article + article { break-before: page } tr { break-inside: avoid } .wrong { text-decoration: underline }
 }
 """
+NARROW = 8  # octets that a telephone has room for in a line
 HEAD = f"""<!DOCTYPE html>
 <html lang="en">
 <head>
@@ -92,7 +93,7 @@ def sheet_table(record: Record, text: str) -> str:
 
 def why_text(told: Why) -> str:
     bits = "<pre>" + escape("\n".join(told.compared())) + "</pre>\n" if told.right else ""
-    marked = "\n".join(told.marked())
+    marked = "\n".join(told.marked(NARROW))
     paragraphs = "".join(f"<p>{escape(line)}</p>\n" for line in [*told.subject, *told.facts, advice(told.refused)])
     return f'<p class="wrong">{escape(upper(str(told.refused)))}</p>\n<pre>{escape(marked)}</pre>\n{bits}{paragraphs}'
 

@@ -36,13 +36,14 @@ class Why:
         """Of the octets that are shown."""
         return self.refused.place - self.made
 
-    def marked(self) -> Iterator[str]:
-        """The octets, with the place marked below; two dashes where they end before it. A category has no place."""
+    def marked(self, row: int = ROW) -> Iterator[str]:
+        """The octets, so many in a line, with the place marked below; two dashes where they end before it. A category
+        has no place."""
         octets = [f"{octet:02X}" for octet in self.field[self.made :]]
         octets += ["--"] * (self.place >= len(octets))
-        for at in range(0, len(octets), ROW):
-            yield f"{at:4}  {' '.join(octets[at:at + ROW])}"
-            if at <= self.place < at + ROW and self.refused.number != 1:
+        for at in range(0, len(octets), row):
+            yield f"{at:4}  {' '.join(octets[at:at + row])}"
+            if at <= self.place < at + row and self.refused.number != 1:
                 yield f"{'':6}{'   ' * (self.place - at)}^^"
 
     def compared(self) -> list[str]:
