@@ -8,8 +8,8 @@ import re
 import subprocess
 import sys
 import threading
-import time
 import unittest
+from contextlib import suppress
 from unittest import mock
 
 import reference
@@ -470,14 +470,16 @@ class Terminal(InFolder):
         pid, fd = pty.fork()
         if pid == 0:
             os.execve(command[0], command, {**ENVIRONMENT, "TERM": "xterm", **env})
-        told = b""
-        try:
-            while piece := os.read(fd, 65536):
-                told += piece
-        except OSError:
-            pass  # the other side is closed
-        os.close(fd)
+        told = self.rest(fd)
         return os.waitstatus_to_exitcode(os.waitpid(pid, 0)[1]), told.decode().replace("\r\n", "\n")
+
+    def rest(self, fd):
+        """What is written until the other side is closed."""
+        told = b""
+        with open(fd, "rb", buffering=0) as screen, suppress(OSError):
+            while piece := screen.read(65536):
+                told += piece
+        return told
 
     def test_colour(self):
         status, told = self.on_terminal("why", "48", "03200F")
@@ -520,15 +522,17 @@ class Terminal(InFolder):
         self.assertRegex(told, rf"(^|\r){said}")
 
     def test_interrupted(self):
-        """Ctrl-C ends it without a trace of Python."""
+        """Ctrl-C, when a line is answered, ends it without a trace of Python."""
         pid, fd = pty.fork()
         if pid == 0:
             os.execve(REF, [str(REF), "sheet", "-"], ENVIRONMENT)
-        time.sleep(1)
+        os.write(fd, b"48 0200\n")
+        told = b""
+        while b"end=ok" not in told:
+            told += os.read(fd, 65536)
         os.write(fd, b"\x03")
+        self.assertNotIn(b"Traceback", told + self.rest(fd))
         self.assertEqual(os.waitstatus_to_exitcode(os.waitpid(pid, 0)[1]), 130)
-        self.assertNotIn(b"Traceback", os.read(fd, 65536))
-        os.close(fd)
 
     def test_reader_that_goes_away(self):
         self.file("48 0200\n" * 5000)
