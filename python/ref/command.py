@@ -8,6 +8,7 @@ import os
 import sys
 import textwrap
 from collections.abc import Callable, Iterator
+from contextlib import suppress
 from typing import Any, NamedTuple, NoReturn
 
 from paltinoma import CATEGORIES, Desk, DeskFailed, UnknownName, slot
@@ -255,6 +256,7 @@ class Output:
         self.begun, self.held = False, io.StringIO()
 
     def put(self, text: str) -> None:
+        """A text behind those before it."""
         if self.name is None and sys.stdout is None:
             raise Usage("there is no standard output")
         to = self.held if self.name else sys.stdout
@@ -263,6 +265,7 @@ class Output:
         self.begun = True
 
     def end(self) -> None:
+        """All is answered."""
         if self.page:
             self.put(FOOT)
         if self.name:
@@ -272,13 +275,21 @@ class Output:
                 raise Usage(f"{self.name} can't be written: {error.strerror}") from None
 
     def replace(self, name: str) -> None:
-        """Writes the file; what is no file, as /dev/full, is written as it is."""
-        special = os.path.exists(name) and not os.path.isfile(name)
-        path = name if special else f"{name}.part"
-        with open(path, "w", encoding="utf-8", errors="backslashreplace") as file:
+        """Writes the file. What is no file, as /dev/full, is written as it is."""
+        if os.path.exists(name) and not os.path.isfile(name):
+            self.write(name)
+            return
+        try:
+            self.write(f"{name}.part")
+            os.replace(f"{name}.part", name)
+        except BaseException:
+            with suppress(OSError):
+                os.unlink(f"{name}.part")
+            raise
+
+    def write(self, name: str) -> None:
+        with open(name, "w", encoding="utf-8", errors="backslashreplace") as file:
             file.write(self.held.getvalue())
-        if not special:
-            os.replace(path, name)
 
 
 class Run:
@@ -291,7 +302,7 @@ class Run:
         self.progress = Progress(sys.stderr, self.out.terminal)
 
     def take(self, one: Told) -> None:
-        """An answer."""
+        """Puts one answer, and counts it."""
         answer = one.answer
         if answer.complaint and not (self.given.json and answer.asked):
             self.say(f"{one.where}: {answer.complaint}" if one.where else answer.complaint)
@@ -310,10 +321,12 @@ class Run:
         return f"{one.where}: {one.asked}\n" if self.many and self.command.headed else ""
 
     def say(self, text: str) -> None:
+        """A line of its own on standard error."""
         self.progress.clear()
         print(f"ref: {text}", file=sys.stderr)
 
     def end(self) -> int:
+        """What is told when all is answered; the exit status."""
         if self.out.begun or self.status != UNASKED:
             self.out.end()
         if self.behind and not self.given.json:

@@ -446,6 +446,11 @@ class OneLine(InFolder):
         self.assertEqual(self.ref("page", "--out", "page.html", "48", "0200"), (0, "", ""))
         self.assertIn("<article>", older.read_text())
         self.assertEqual((self.folder / "kept.html").read_text(), "another page")
+        (self.folder / "folder").mkdir()
+        self.said(["page", "--out", "folder", "48", "0200"], "folder can't be written: Is a directory")
+        (self.folder / "other.part").mkdir()
+        self.said(["page", "--out", "other", "48", "0200"], "other can't be written: Is a directory")
+        self.assertEqual(sorted(os.listdir(self.folder)), ["folder", "kept.html", "other.part", "page.html"])
 
     def test_program(self):
         self.said(
