@@ -14,6 +14,7 @@ BASE = bytes.fromhex("062806010000")  # 01's worked field: M4E 3, ERR 65,536
 ENVIRONMENT = {
     name: value for name, value in os.environ.items() if name not in ("PYTHONUNBUFFERED", "REFDESK", "NO_COLOR")
 }
+HANGS = 120  # seconds after which a command is taken to hang
 
 
 class WithDesk(unittest.TestCase):
@@ -49,6 +50,6 @@ class InFolder(unittest.TestCase):
             text=True,
             cwd=self.folder,
             env={**ENVIRONMENT, **env},
-            timeout=120,
+            timeout=HANGS,
         )
         return ended.returncode, ended.stdout, ended.stderr

@@ -5,6 +5,7 @@ import os
 import pty
 import random
 import re
+import signal
 import subprocess
 import sys
 import threading
@@ -17,7 +18,7 @@ from fields import good_field
 from papers import PAPERS
 from ref.command import COMMANDS, Run, parsed
 
-from tests.given import ENVIRONMENT, REF, InFolder
+from tests.given import ENVIRONMENT, HANGS, REF, InFolder
 
 MAP = """\
 category 048, edition 1.9 (document 000): accepted
@@ -472,11 +473,19 @@ class Terminal(InFolder):
         return self.seen(["/bin/sh", "-c", command], {})
 
     def seen(self, command, env):
-        pid, fd = pty.fork()
-        if pid == 0:
-            os.execve(command[0], command, {**ENVIRONMENT, "TERM": "xterm", **env})
+        pid, fd = self.begun(command, env)
         told = self.rest(fd)
         return os.waitstatus_to_exitcode(os.waitpid(pid, 0)[1]), told.decode().replace("\r\n", "\n")
+
+    def begun(self, command, env):
+        """A command on a terminal of its own. Ctrl-C ends it, also where these tests run in the background and ignore
+        Ctrl-C themselves; if it hangs, it is ended."""
+        pid, fd = pty.fork()
+        if pid == 0:
+            signal.signal(signal.SIGINT, signal.SIG_DFL)
+            signal.alarm(HANGS)
+            os.execve(command[0], command, {**ENVIRONMENT, "TERM": "xterm", **env})
+        return pid, fd
 
     def rest(self, fd):
         """What is written until the other side is closed."""
@@ -528,9 +537,7 @@ class Terminal(InFolder):
 
     def test_interrupted(self):
         """Ctrl-C, when a line is answered, ends it without a trace of Python."""
-        pid, fd = pty.fork()
-        if pid == 0:
-            os.execve(REF, [str(REF), "sheet", "-"], ENVIRONMENT)
+        pid, fd = self.begun([str(REF), "sheet", "-"], {})
         os.write(fd, b"48 0200\n")
         told = b""
         while b"end=ok" not in told:
@@ -546,7 +553,7 @@ class Terminal(InFolder):
             cwd=self.folder,
             capture_output=True,
             text=True,
-            timeout=60,
+            timeout=HANGS,
             env=ENVIRONMENT,
         )
         self.assertEqual((ended.stdout, ended.stderr), ("cat=48\n141\n", ""))

@@ -12,7 +12,7 @@ import reference
 from fields import full_field, good_field
 from sheets import widest
 
-from tests.given import InFolder
+from tests.given import HANGS, InFolder
 
 CHROMIUM = shutil.which("chromium")
 ALONE = {"meta", "br", "hr", "link", "img", "input", "wbr"}  # tags without an end
@@ -170,7 +170,7 @@ class InABrowser(Pages):
             f"--user-data-dir={self.folder}/browser",
         ]
         return subprocess.run(
-            [*start, option, f"file://{self.folder}/{name}"], capture_output=True, text=True, timeout=120, check=True
+            [*start, option, f"file://{self.folder}/{name}"], capture_output=True, text=True, timeout=HANGS, check=True
         ).stdout
 
     def test_numbers(self):
