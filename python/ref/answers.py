@@ -7,7 +7,7 @@ from collections.abc import Callable, Iterator
 from dataclasses import dataclass
 from typing import Any
 
-from paltinoma import CATEGORIES, Desk, Number, Record, Refused, slot
+from paltinoma import CATEGORIES, Desk, Item, Number, Record, Refused, slot
 
 from ref.lines import FIELD, NEW, Asked, Usage, shortened
 from ref.octets import FX, Placed, Row, beside, read_lines, rows, said
@@ -94,7 +94,7 @@ def number_data(number: Number) -> Data:
 
 
 def read(session: Session, asked: Asked) -> Answer:
-    """Each number that is there, and what it stands for."""
+    """Each item that is there, its numbers, and what they stand for."""
     cat, field, data = field_data(asked)
     try:
         record = session.desk.read(cat, field)
@@ -102,9 +102,18 @@ def read(session: Session, asked: Asked) -> Answer:
         return no(data, refused)
     data["items"] = [{"name": name, "parts": record.chain(name)} for name in record.present]
     data["numbers"] = [number_data(number) for number in record.values()]
-    wide = max(map(len, record), default=0)
-    told = [f"{key:{wide}}  {number:>9}  {beside(number)}".rstrip() for key, number in record.items()]
+    found = [row for item in CATEGORIES[cat].items if item.name in record.present for row in item_rows(record, item)]
+    wide = max((len(key) for key, _, _ in found), default=0)
+    told = [f"{key:{wide}}  {number:>9}  {said}".rstrip() for key, number, said in found] or ["no items"]
     return ok(data, "".join(f"{row}\n" for row in told))
+
+
+def item_rows(record: Record, item: Item) -> list[tuple[str, str, str]]:
+    """Key, number and what it stands for, of an item that is there: first its parts, as on the sheet, where a chain may
+    have several."""
+    parts = [(f"{item.name}.chain", str(record.chain(item.name)), "")] if len(item.parts) > 1 else []
+    own = [number for key, number in record.items() if key.split(".")[0] == item.name]
+    return [*parts, *((n.key, str(n), beside(n)) for n in own)] or [(item.name, "", "nothing in it")]
 
 
 def run_data(placed: Placed, record: Record | None) -> Iterator[Data]:

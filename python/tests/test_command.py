@@ -71,9 +71,22 @@ class Shown(InFolder):
     def test_read(self):
         self.assertEqual(self.ref("read", "21", "04800FFF"), (0, "BPS       4095  1209.5 hPa or more\n", ""))
         self.assertEqual(self.ref("read", "48", "062806010000"), (0, "M4E          3\nERR      65536  256 NM\n", ""))
+        position = "MD5.POS.LAT    4194304  90 degrees\nMD5.POS.LON   -8388608  -180 degrees\n"
+        self.assertEqual(self.ref("read", "48", "098020400000800000"), (0, position, ""))
         self.assertEqual(
             self.ref("read", "48", "0280"),
             (1, "", "ref: refused by 5 at octet 2: chain part or subfield not wholly before LEN\n"),
+        )
+
+    def test_read_without_numbers(self):
+        """01's edges `02 00`, `04 40 01 00` and, in category 21, `03 01 00`: each is told of, among others too."""
+        empty = "MES             nothing in it\n"
+        self.assertEqual(self.ref("read", "48", "0200"), (0, "no items\n", ""))
+        self.assertEqual(self.ref("read", "48", "04400100"), (0, "M5N.chain          2\n", ""))
+        self.assertEqual(self.ref("read", "21", "030100"), (0, empty, ""))
+        self.assertEqual(
+            self.ref("read", self.file("48 0200\n21 030100\n")),
+            (0, f"day.txt, line 1: 48 0200\nno items\n\nday.txt, line 2: 21 030100\n{empty}", ""),
         )
 
     def test_items(self):
@@ -205,6 +218,19 @@ class Many(InFolder):
         self.assertEqual(
             self.ref("rebuild", given=told), (0, "".join(f"{cat} {field.hex().upper()}\n" for cat, field in fields), "")
         )
+
+    def test_readings(self):
+        """Keys and numbers are those of the sheet, but for the lines that are derived."""
+        fields = self.fields(300)
+        blocks = self.ref("read", self.day(fields))[1].split("\n\n")
+        self.assertEqual(len(blocks), len(fields))
+        for (cat, field), block in zip(fields, blocks):
+            told = [
+                row.split()[:2] for row in block.splitlines()[1:] if not row.endswith(("no items", "nothing in it"))
+            ]
+            lines = [line.split("=") for line in reference.sheet(bytes([cat]) + field).splitlines()[3:-1]]
+            derived = (".udeg", ".left", ".tenths", ".sense")
+            self.assertEqual(told, [line for line in lines if not line[0].endswith(derived)])
 
     def test_every_command(self):
         """Each takes a file of fields, and tells of as many as it has, of the refused one too."""
