@@ -1,6 +1,6 @@
 #!/usr/bin/env python3
 """Holds docs/PROTOCOL.md and README.md to what is so: their sessions and tables against tests/refdesk.py, tests/papers.py and include/refdesk.h, and
-their commands against the programs.
+their commands against the programs; and the enums of include/refdesk.h to tests/papers.py.
 
 A block of sh or python is run from the repository's folder, and has to print the block of text behind it. Of the blocks that send lines to refdesk,
 and of the rows of a table 'line | answer', the answers have to be those of tests/refdesk.py, too. What stands beside a request in Python has to send
@@ -13,6 +13,7 @@ from pathlib import Path
 
 from papers import PAPERS
 from refdesk import FORMS, answer, answers, values_of
+from reference import keys
 from started import started
 
 ROOT = Path(__file__).resolve().parent.parent
@@ -96,6 +97,21 @@ def in_python():
     return count
 
 
+def in_c(cat):
+    """What C calls the numbers of a category, each with its slot: by its key, and a presence flag by HAS and its subfield."""
+    for item in PAPERS[cat]:
+        flags = (f"HAS.{item[0]}.{sub}" for sub, _, _ in item[2])
+        yield from (re.sub(r"\W", "_", f"{cat:03}.{key or next(flags)}").upper() for key in keys(item))
+
+
+def enums():
+    """The enums of the header, every name and number, against the papers."""
+    items = [(f"{cat:03}_{item[0]}".upper(), str(i)) for cat, paper in PAPERS.items() for i, item in enumerate(paper, 1)]
+    slots = [(name, str(slot)) for cat in PAPERS for slot, name in enumerate(in_c(cat))]
+    count = same("items in C", re.findall(r"\bREF_ITEM_(\w+) = (\d+)", HEADER), items)
+    return count + same("slots in C", re.findall(r"\bREF_(\d\d\d_\w+) = (\d+)", HEADER), slots)
+
+
 def tables():
     """Requests, items and refusals of the page, against the forms, the papers and the header."""
     told = {row[0].split()[0]: sum(WORDS.get(word, 1) for word in row[0].split()[1:]) for row in table(PAGE, REQUESTS)}
@@ -107,7 +123,7 @@ def tables():
 
 
 def main():
-    print(f"protocol: {tables() + in_python() + sessions() + commands()} passed, 0 failed")
+    print(f"protocol: {tables() + enums() + in_python() + sessions() + commands()} passed, 0 failed")
 
 
 if __name__ == "__main__":
