@@ -13,10 +13,9 @@ import sys
 from collections import Counter
 from pathlib import Path
 
-from drive import damaged
+from drive import some_field
 from fields import good_field, good_item
 from papers import PAPERS
-from reads import BAD_FIELDS
 from refdesk import FORMS, LONGEST, MOST, answer, hexed, line_of
 from reference import read, sheet
 from spoilt import spoilt
@@ -30,11 +29,8 @@ UNKNOWN = 49
 
 # ---- requests as the protocol has them: a name and the values of its words
 
-def some_field(rng, cat):
-    """Right, damaged, or bad by hand; some with octets behind LEN, a few with very many."""
-    field, way = good_field(cat, rng), rng.randrange(8)
-    if way < 2:
-        field = damaged(rng, field) if way else bytes.fromhex(rng.choice(BAD_FIELDS[cat]))
+def with_more(rng, field):
+    """Some with octets behind LEN, a few with very many."""
     return field + rng.randbytes(rng.choice([0, 0, 0, 3, 300, 5000]))
 
 
@@ -57,10 +53,11 @@ def request(rng):
     number, room = rng.randrange(len(PAPERS[cat])), rng.choice([52, 52, 300, rng.randrange(60)])
     listed, item = rng.randrange(256) & indicated(cat), number + 1
     new = good_item(PAPERS[cat][number], rng) if rng.randrange(4) else rng.randbytes(rng.choice([0, 1, 2, 253, 254, 9000]))
-    field, said = some_field(rng, cat), rng.choice([cat] * 20 + [UNKNOWN])
+    base, field = (with_more(rng, some_field(rng, cat)) for _ in range(2))
+    said = rng.choice([cat] * 20 + [UNKNOWN])
     words = {
         b"read": (said, field), b"sheet": (said, field), b"write": (room, said, *some_record(rng, cat)[1:]), b"view": (said, field, item),
-        b"choose": (said, some_field(rng, cat), field, item), b"remove": (said, field, listed, item, room),
+        b"choose": (said, base, field, item), b"remove": (said, field, listed, item, room),
         b"replace": (said, field, listed, item, new, room), b"copy": (said, field, listed, room), b"rebuild": (some_text(rng, cat), room),
     }
     return (name, *words[name])

@@ -21,6 +21,7 @@ from subprocess import DEVNULL, PIPE
 from termios import FIONREAD
 
 from failures import failures, file_with
+from fields import good_field
 from lines import EXAMPLES, WRONG, either_case
 from reads import BAD_FIELDS
 from refdesk import FORMS, LIST, MOST, OCTETS, answer
@@ -49,6 +50,12 @@ def damaged(rng, field):
     if octets and rng.random() < 0.6:
         octets[0] = min(255, len(octets))
     return bytes(octets)
+
+
+def some_field(rng, cat):
+    """Right, damaged, or bad by hand."""
+    field = good_field(cat, rng)
+    return rng.choice([field, field, damaged(rng, field), bytes.fromhex(rng.choice(BAD_FIELDS[cat]))])
 
 
 def exchanged(rng, line, known):

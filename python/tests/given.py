@@ -41,6 +41,10 @@ class InFolder(unittest.TestCase):
         (self.folder / name).write_text(text)
         return name
 
+    def day(self, fields, name="day.txt"):
+        """A file of fields, a line each."""
+        return self.file("".join(f"{cat} {field.hex()}\n" for cat, field in fields), name)
+
     def ref(self, *words, given="", **env):
         """What the command does there: its exit status, what it prints, and what it says on standard error."""
         ended = subprocess.run(

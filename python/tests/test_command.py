@@ -206,9 +206,6 @@ class Many(InFolder):
         rng = random.Random(21)
         return [(cat, good_field(cat, rng)) for cat in (rng.choice(list(PAPERS)) for _ in range(count))]
 
-    def day(self, fields, name="day.txt"):
-        return self.file("".join(f"{cat} {field.hex()}\n" for cat, field in fields), name)
-
     def test_sheets_and_back(self):
         fields = self.fields(300)
         status, told, said = self.ref("sheet", self.day(fields))

@@ -7,11 +7,10 @@ from fractions import Fraction
 
 import paltinoma
 import reference
-from drive import damaged
+from drive import damaged, some_field
 from fields import good_field, good_item
 from paltinoma import CATEGORIES, LONGEST, Field, Record, Refused, UnknownName, View, slot
 from papers import PAPERS
-from reads import BAD_FIELDS
 
 from tests.given import BASE, WithDesk
 
@@ -245,12 +244,8 @@ class Seeded(WithDesk):
 
     def fields(self, count):
         rng = random.Random(22)
-        for _ in range(count):
-            cat = rng.choice([48, 21, 7])
-            field = good_field(cat, rng)
-            if rng.randrange(3) == 0:
-                field = damaged(rng, field) if rng.randrange(2) else bytes.fromhex(rng.choice(BAD_FIELDS[cat]))
-            yield rng, cat, field
+        for cat in rng.choices(list(PAPERS), k=count):
+            yield rng, cat, some_field(rng, cat)
 
     def test_reading(self):
         for _, cat, field in self.fields(SEEDED):

@@ -4,13 +4,11 @@ import random
 import unittest
 
 import reference
-from drive import damaged
-from fields import good_field
-from paltinoma import Refused
+from drive import some_field
 from papers import PAPERS
-from reads import BAD_FIELDS
 from ref.answers import line_data
 from ref.octets import read_lines, rows
+from ref.why import reading
 
 from tests.given import WithDesk
 
@@ -58,21 +56,12 @@ def bit_kinds(octets, defined, chain):
 
 
 class Maps(WithDesk):
-    def asked(self, cat, field):
-        try:
-            return self.desk.read(cat, field), None
-        except Refused as refused:
-            return None, refused
-
-    def fields(self, count):
+    def fields(self):
+        """With the record or the refusal of each."""
         rng = random.Random(48)
-        for _ in range(count):
-            cat = rng.choice([48, 21, 7])
-            field = good_field(cat, rng)
-            way = rng.randrange(4)
-            yield cat, damaged(rng, field) if way == 0 else bytes.fromhex(
-                rng.choice(BAD_FIELDS[cat])
-            ) if way == 1 else field
+        for cat in rng.choices(list(PAPERS), k=SEEDED):
+            field = some_field(rng, cat)
+            yield cat, field, *reading(self.desk, cat, field)
 
     def every_octet_once(self, field, found):
         """In order, as hex and as bits; the bits of an octet are told apart by its rows."""
@@ -84,15 +73,13 @@ class Maps(WithDesk):
             self.assertEqual(told, list(f"{octet:08b}"), shown)
 
     def test_every_octet(self):
-        for cat, field in self.fields(SEEDED):
-            record, refused = self.asked(cat, field)
+        for cat, field, record, refused in self.fields():
             self.every_octet_once(field, rows(cat, field, record, refused))
 
     def test_accepted(self):
         """Each line where the papers have it, its bits with the numbers that they are of, and each number with its
         key as on the sheet."""
-        for cat, field in self.fields(SEEDED):
-            record, refused = self.asked(cat, field)
+        for cat, field, record, refused in self.fields():
             if refused:
                 continue
             got = [line_data(placed, record) for placed in read_lines(cat, field, None)]
@@ -121,8 +108,7 @@ class Maps(WithDesk):
     def test_refused(self):
         """The lines before the place are those of the papers, and the last one stands at the place where 5, 6, 7 or 8
         are given."""
-        for cat, field in self.fields(SEEDED):
-            _, refused = self.asked(cat, field)
+        for cat, field, _, refused in self.fields():
             if refused is None:
                 continue
             got = read_lines(cat, field, refused)
@@ -143,7 +129,7 @@ class Maps(WithDesk):
     def test_by_hand(self):
         """01's edge `05 40 01 80 1F`: two parts, and FOM in bits 5/1 of its subfield."""
         field = bytes.fromhex("054001801F")
-        found = rows(48, field, *self.asked(48, field))
+        found = rows(48, field, *reading(self.desk, 48, field))
         told = [(row.at, row.shown, row.name, row.bits, row.text) for row in found]
         self.assertEqual(
             told[:3],
@@ -187,11 +173,11 @@ class Maps(WithDesk):
             (48, "030100", (1, "", ".....001", "", "spare, must be 0", "wrong")),
         ):
             field = bytes.fromhex(octets)
-            found = rows(cat, field, *self.asked(cat, field))
+            found = rows(cat, field, *reading(self.desk, cat, field))
             self.assertIn(row, [(r.at, r.octet, r.shown, r.name, r.text, r.kind) for r in found])
 
     def test_empty(self):
-        self.assertEqual(rows(48, b"", *self.asked(48, b"")), [])
+        self.assertEqual(rows(48, b"", *reading(self.desk, 48, b"")), [])
 
 
 if __name__ == "__main__":

@@ -64,9 +64,6 @@ class Pages(InFolder):
         self.assertEqual(self.ref("page", "--out", "page.html", *words), (status, "", ""))
         return (self.folder / "page.html").read_text(encoding="utf-8")
 
-    def day(self, fields, name="day.txt"):
-        return self.file("".join(f"{cat} {field.hex()}\n" for cat, field in fields), name)
-
     def fields(self):
         rng = random.Random(9)
         return [(cat, full_field(cat, widest)) for cat in (48, 21, 7)] + [

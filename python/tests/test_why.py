@@ -5,16 +5,14 @@ import re
 import unittest
 
 import reference
-from drive import damaged
-from fields import good_field
+from drive import some_field
 from paltinoma import Refused, slot
 from papers import PAPERS
-from reads import BAD_FIELDS
 from ref.why import refusal, why, why_new
 
 from tests.given import WithDesk
 
-SEEDED = 1500
+SEEDED = 2500
 
 
 class Explained(WithDesk):
@@ -214,16 +212,12 @@ def cleared(cat, item, line, octets):
 
 
 class Seeded(WithDesk):
-    def refused_fields(self, count):
+    def refused_fields(self):
         rng = random.Random(7)
-        for _ in range(count):
-            cat = rng.choice([48, 21, 7])
-            field = (
-                damaged(rng, good_field(cat, rng)) if rng.randrange(2) else bytes.fromhex(rng.choice(BAD_FIELDS[cat]))
-            )
+        for cat in rng.choices(list(PAPERS), k=SEEDED):
+            field = some_field(rng, cat)
             refused = refusal(self.desk, cat, field)
-            wanted = reference.read(cat, field)
-            self.assertEqual(wanted[0] == "ok", refused is None)
+            self.assertEqual(reference.read(cat, field)[0] == "ok", refused is None)
             if refused:
                 yield cat, field, refused
 
@@ -231,7 +225,7 @@ class Seeded(WithDesk):
         """The claims about the mended field and about other categories; and that the mended field passes what was
         refused."""
         count = 0
-        for cat, field, refused in self.refused_fields(SEEDED):
+        for cat, field, refused in self.refused_fields():
             told = why(self.desk, cat, field, refused)
             count += 1
             others = {int(fact.split()[2]) for fact in told.facts if fact.startswith("As category")}
@@ -239,7 +233,7 @@ class Seeded(WithDesk):
                 others, {other for other in PAPERS if other != cat and reference.read(other, field)[0] == "ok"}
             )
             self.mended(told)
-        self.assertGreater(count, SEEDED / 2)
+        self.assertGreater(count, SEEDED / 4)
 
     def mended(self, told):
         """What is said of the mended field: of new octets, counted from the first of these."""
@@ -257,7 +251,7 @@ class Seeded(WithDesk):
 
     def test_patterns(self):
         """What may stand at the place, and what is put there, by the papers' own bits."""
-        for cat, field, refused in self.refused_fields(SEEDED):
+        for cat, field, refused in self.refused_fields():
             if refused.number not in (6, 7):
                 continue
             told = why(self.desk, cat, field, refused)
