@@ -1,7 +1,7 @@
 // The angle of a latitude or longitude (01, 'The sheet'; 02, Ask 7), whose numbers are steps of 180/8,388,608 degree.
 // Promises: the angle and what it leaves over are those that 01 and 02 define, for every number. Stands on scope's definitions and on no code.
 ghost use Rattle.std.specs.Prelude.{◌≡◌};
-ghost use Rattle.scope.specs.Angle.{udegOf, left_of};
+ghost use Rattle.scope.specs.Angle.{udeg_of, left_of};
 ghost use Rattle.angle.specs.Half.{half_of};
 
 // Both are i64: those of a 24-bit number would fit an i32, the millionths of any i32 would not.
@@ -25,7 +25,7 @@ fn half(product: i64) -> i64
 
 // The millionths are the product's nearest whole part, and the leftover is what remains of that very product.
 pub fn exact(n: i32) -> Angle
-    ensures { (result.udeg ≡ udegOf n) × (result.left ≡ left_of n) }
+    ensures { (result.udeg ≡ udeg_of n) × (result.left ≡ left_of n) }
 {
     let product = (n as i64) * 703_125;
     let udeg = (product + half(product)) / 32_768;

@@ -1,38 +1,38 @@
 -- Lines and their answers computed from the protocol's definition: a request of each kind, accepted and refused, and ways of being none.
 use Rattle.std.specs.Prelude.{◌≡◌, refl, List, [], ◌∷◌, map}
 use Prim.Native.String.{String}
-use Rattle.codec.specs.Signed.{to_signed, ofSigned, in_signed}
+use Rattle.codec.specs.Signed.{to_signed, of_signed, in_signed}
 use Rattle.codec.specs.Radix.{total, cut, join}
 use Rattle.codec.specs.Codec.{number}
-use Rattle.codec.specs.Line.{toNum, ofNum, inNum, limit, widths, count, clear, nums, unnums, inLimits, cells, line}
-use Rattle.codec.specs.Item.{slots_of, slots, beside, fxOf, chain, isOne, subfields, item, lines_of}
-use Rattle.codec.specs.Field.{uncons, firstFlag, nextFlags, row, allZero, indicator, body, texts, textsOf, before}
+use Rattle.codec.specs.Line.{to_num, of_num, in_num, limit, widths, count, clear, nums, unnums, in_limits, cells, line}
+use Rattle.codec.specs.Item.{slots_of, slots, beside, fx_of, chain, is_one, subfields, item, lines_of}
+use Rattle.codec.specs.Field.{uncons, first_flag, next_flags, row, all_zero, indicator, body, texts, texts_of, before}
 use Rattle.codec.specs.Meaning.{len_of}
-use Rattle.codec.specs.Frame.{settle, readFrame, writeFrame}
-use Rattle.codec.specs.Change.{setFlag, setItem, blankAt, alone, put_in, change}
+use Rattle.codec.specs.Frame.{settle, read_frame, write_frame}
+use Rattle.codec.specs.Change.{set_flag, set_item, blank_at, alone, put_in, change}
 use Rattle.papers.specs.Cat048.{cat048}
-use Rattle.papers.specs.Papers.{known, paperOf, allSlots}
+use Rattle.papers.specs.Papers.{known, paper_of, all_slots}
 use Rattle.papers.specs.Names.{text, names048, names_of}
-use Rattle.layout.specs.Answer.{whichNumber}
-use Rattle.layout.specs.Record.{allParts, allNumbers, flatten}
+use Rattle.layout.specs.Answer.{which_number}
+use Rattle.layout.specs.Record.{all_parts, all_numbers, flatten}
 use Rattle.scope.specs.Reading.{field_of, shown, read_of}
-use Rattle.scope.specs.Outputs.{withRoom}
-use Rattle.scope.specs.Views.{isItem, present, standing, viewIn, view_of, part_of, chooseIn, chooseOf, side_of, chosen_of}
-use Rattle.scope.specs.Desk.{listed as onList, afresh, editIn, editOf}
-use Rattle.scope.specs.Visitors.{without, copyIn, copy_of}
-use Rattle.scope.specs.Rebuilding.{categoryGiven, octetsGiven}
-use Rattle.scope.specs.Sheet.{digitsOf, decimal, signedDecimal, numberText, numbersText, partsThere, subfieldsThere, linesThere, linesText, chainText, itemText, rowText, itemsText, fieldText, sheetOf, keyLine}
-use Rattle.text.specs.Decimals.{valueFrom, value_of, isDigit}
-use Rattle.text.specs.Laws.Decimals.{areDigits}
-use Rattle.text.specs.Hex.{capital, pairText, pairsText, hexText}
-use Rattle.words.specs.Numbers.{leads, goesOn, is_number, number_in, is_signed, signedValue, signedIn, valueIn}
-use Rattle.guess.specs.Lines.{beforeOctet, behindOctet, behindFeeds}
-use Rattle.guess.specs.Guess.{valueIn as lineValue, fitsPiece, pieceIn, boundedIn, linesFor, behindKeys, numbersIn, takenLines, leftLines, begins, keyText, head_of, open_in, bit, bits, countIn, behindCount, thereIn, keysIn, itemNumbers, itemIn, itemLeft, row_in, namesIn, indicatorOf, indicatorIn, categoryOf, categoryIn, lengthIn, contentsIn, guessOf, sheetWith, firstWrong as firstWrongLine, given_of, rebuildOf}
-use Rattle.hex.specs.Octets.{hexDigit, areHex, isOctets, octetOf, octetsOf, octetsIn, isList, listIn}
+use Rattle.scope.specs.Outputs.{with_room}
+use Rattle.scope.specs.Views.{is_item, present, standing, view_in, view_of, part_of, choose_in, choose_of, side_of, chosen_of}
+use Rattle.scope.specs.Desk.{listed as onList, afresh, edit_in, edit_of}
+use Rattle.scope.specs.Visitors.{without, copy_in, copy_of}
+use Rattle.scope.specs.Rebuilding.{category_given, octets_given}
+use Rattle.scope.specs.Sheet.{digits_of, decimal, signed_decimal, number_text, numbers_text, parts_there, subfields_there, lines_there, lines_text, chain_text, item_text, row_text, items_text, field_text, sheet_of, key_line}
+use Rattle.text.specs.Decimals.{value_from, value_of, is_digit}
+use Rattle.text.specs.Laws.Decimals.{are_digits}
+use Rattle.text.specs.Hex.{capital, pair_text, pairs_text, hex_text}
+use Rattle.words.specs.Numbers.{leads, goes_on, is_number, number_in, is_signed, signed_value, signed_in, value_in}
+use Rattle.guess.specs.Lines.{before_octet, behind_octet, behind_feeds}
+use Rattle.guess.specs.Guess.{value_in as lineValue, fits_piece, piece_in, bounded_in, lines_for, behind_keys, numbers_in, taken_lines, left_lines, begins, key_text, head_of, open_in, bit, bits, count_in, behind_count, there_in, keys_in, item_numbers, item_in, item_left, row_in, names_in, indicator_of, indicator_in, category_of, category_in, length_in, contents_in, guess_of, sheet_with, first_wrong as firstWrongLine, given_of, rebuild_of}
+use Rattle.hex.specs.Octets.{hex_digit, are_hex, is_octets, octet_of, octets_of, octets_in, is_list, list_in}
 use Rattle.protocol.specs.Line.{glued, words_of, same}
-use Rattle.protocol.specs.Forms.{fits, forms, firstWrong, judgedAs, judgedBy, parseOf}
-use Rattle.replies.specs.Texts.{next, nextSigned, nextOctets, badRequest, refusalText, outputText, rebuiltText, givenText, shownText, viewText, choiceIn, choiceText, wordsText, recordText, readIn, readingText, inLine, lineOctet, sheetText}
-use Rattle.answers.specs.Answers.{listed, readAnswer, writeAnswer, sheetAnswer, viewAnswer, chooseAnswer, removeAnswer, replaceAnswer, copyAnswer, rebuildAnswer, asked, said, answer_of}
+use Rattle.protocol.specs.Forms.{fits, forms, first_wrong, judged_as, judged_by, parse_of}
+use Rattle.replies.specs.Texts.{next, next_signed, next_octets, bad_request, refusal_text, output_text, rebuilt_text, given_text, shown_text, view_text, choice_in, choice_text, words_text, record_text, read_in, reading_text, in_line, line_octet, sheet_text}
+use Rattle.answers.specs.Answers.{listed, read_answer, write_answer, sheet_answer, view_answer, choose_answer, remove_answer, replace_answer, copy_answer, rebuild_answer, asked, said, answer_of}
 
 pub record Spoken : Type 0 where
   pub asked : String
@@ -72,5 +72,5 @@ spoken =
     ∷ []
 
 pub spoken-answers : map (λ (x : Spoken). answer_of (text x.asked)) spoken ≡ map (λ (x : Spoken). text x.told) spoken
-unfolding spoken listed readAnswer writeAnswer sheetAnswer viewAnswer chooseAnswer removeAnswer replaceAnswer copyAnswer rebuildAnswer asked said answer_of next nextSigned nextOctets badRequest refusalText outputText rebuiltText givenText shownText viewText choiceIn choiceText wordsText recordText readIn readingText inLine lineOctet sheetText glued words_of same fits forms firstWrong judgedAs judgedBy parseOf leads goesOn is_number is_signed valueIn hexDigit areHex isOctets octetOf octetsOf octetsIn isList listIn valueFrom value_of isDigit areDigits capital pairText pairsText hexText field_of shown read_of withRoom isItem present standing viewIn view_of part_of chooseIn chooseOf side_of chosen_of onList afresh editIn editOf without copyIn copy_of digitsOf decimal signedDecimal numberText numbersText partsThere subfieldsThere linesThere linesText chainText itemText rowText itemsText fieldText sheetOf keyLine cat048 known paperOf whichNumber names048 names_of allParts allNumbers allSlots flatten to_signed ofSigned total cut join number toNum ofNum limit widths count clear nums unnums inLimits cells line slots_of slots beside fxOf chain isOne subfields item lines_of uncons firstFlag nextFlags row allZero indicator body texts textsOf before len_of settle readFrame writeFrame setFlag setItem blankAt alone put_in change in_signed inNum number_in signedValue signedIn beforeOctet behindOctet behindFeeds lineValue fitsPiece pieceIn boundedIn linesFor behindKeys numbersIn takenLines leftLines begins keyText head_of open_in bit bits countIn behindCount thereIn keysIn itemNumbers itemIn itemLeft row_in namesIn indicatorOf indicatorIn categoryOf categoryIn lengthIn contentsIn guessOf sheetWith firstWrongLine given_of rebuildOf categoryGiven octetsGiven
+unfolding spoken listed read_answer write_answer sheet_answer view_answer choose_answer remove_answer replace_answer copy_answer rebuild_answer asked said answer_of next next_signed next_octets bad_request refusal_text output_text rebuilt_text given_text shown_text view_text choice_in choice_text words_text record_text read_in reading_text in_line line_octet sheet_text glued words_of same fits forms first_wrong judged_as judged_by parse_of leads goes_on is_number is_signed value_in hex_digit are_hex is_octets octet_of octets_of octets_in is_list list_in value_from value_of is_digit are_digits capital pair_text pairs_text hex_text field_of shown read_of with_room is_item present standing view_in view_of part_of choose_in choose_of side_of chosen_of onList afresh edit_in edit_of without copy_in copy_of digits_of decimal signed_decimal number_text numbers_text parts_there subfields_there lines_there lines_text chain_text item_text row_text items_text field_text sheet_of key_line cat048 known paper_of which_number names048 names_of all_parts all_numbers all_slots flatten to_signed of_signed total cut join number to_num of_num limit widths count clear nums unnums in_limits cells line slots_of slots beside fx_of chain is_one subfields item lines_of uncons first_flag next_flags row all_zero indicator body texts texts_of before len_of settle read_frame write_frame set_flag set_item blank_at alone put_in change in_signed in_num number_in signed_value signed_in before_octet behind_octet behind_feeds lineValue fits_piece piece_in bounded_in lines_for behind_keys numbers_in taken_lines left_lines begins key_text head_of open_in bit bits count_in behind_count there_in keys_in item_numbers item_in item_left row_in names_in indicator_of indicator_in category_of category_in length_in contents_in guess_of sheet_with firstWrongLine given_of rebuild_of category_given octets_given
 spoken-answers = refl

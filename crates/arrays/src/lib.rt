@@ -4,7 +4,7 @@
 ghost use Rattle.std.specs.Prelude.{◌≡◌, map, pos, length};
 ghost use Rattle.scope.specs.Outputs.{Leaves};
 ghost use Rattle.scope.specs.Reading.{read_of};
-ghost use Rattle.interface.specs.Arrays.{PLACES, Filled, isOctet, areOctets, octetOf, ofArray, writeArray};
+ghost use Rattle.interface.specs.Arrays.{PLACES, Filled, is_octet, are_octets, octet_of, of_array, write_array};
 
 use layout::{Answer, Record, SLOTS};
 
@@ -12,7 +12,7 @@ use layout::{Answer, Record, SLOTS};
 const PLACES: usize = 10 + SLOTS;
 
 fn is_octet(z: i32) -> bool
-    ensures { result ≡ isOctet z }
+    ensures { result ≡ is_octet z }
 {
     if z < 0 {
         return false;
@@ -21,7 +21,7 @@ fn is_octet(z: i32) -> bool
 }
 
 fn are_octets(numbers: &[i32]) -> bool
-    ensures { result ≡ areOctets numbers.now }
+    ensures { result ≡ are_octets numbers.now }
 {
     let mut i: usize = 0;
     while i < numbers.len() {
@@ -36,7 +36,7 @@ fn are_octets(numbers: &[i32]) -> bool
 
 // The octet that a number is; 0 for one that is none.
 fn octet(z: i32) -> u8
-    ensures { result ≡ octetOf z }
+    ensures { result ≡ octet_of z }
 {
     if is_octet(z) {
         return z as u8;
@@ -64,7 +64,7 @@ fn widen(octets: &[u8], numbers: &mut [i32])
 
 fn narrow(numbers: &[i32], octets: &mut [u8])
     requires { length numbers.now ≡ length octets.old }
-    ensures { octets.new ≡ map octetOf numbers.now }
+    ensures { octets.new ≡ map octet_of numbers.now }
 {
     let mut i: usize = 0;
     while i < numbers.len() {
@@ -87,7 +87,7 @@ fn copy(from: &[i32], to: &mut [i32])
 // The record of an array.
 fn record_of(a: &[i32]) -> Record
     requires { length a.now ≡ PLACES }
-    ensures { result ≡ ofArray a.now }
+    ensures { result ≡ of_array a.now }
 {
     let mut parts = [0u8; 8];
     let mut numbers = [0i32; SLOTS];
@@ -103,7 +103,7 @@ fn record_of(a: &[i32]) -> Record
 
 // What a refused array answers, or what the writer does.
 pub fn write_array(a: &[i32], out: &mut [u8]) -> Answer
-    ensures { Leaves (writeArray a.now (length out.old)) out.old result out.new }
+    ensures { Leaves (write_array a.now (length out.old)) out.old result out.new }
 {
     if a.len() == PLACES {
         if layout::is_known(octet(a[0])) {

@@ -17,4 +17,3 @@ pub mod Frame
 pub mod Change
 pub mod Made
 pub mod Mask
-pub mod Laws

@@ -2,7 +2,7 @@
 use Rattle.std.specs.Prelude.{Bool, true, false, ◌&&◌, List, [], ◌∷◌, ℕ, suc, ◌+◌, ◌*◌, ◌^◌, ◌/◌, ◌%◌, ltb, eqb, ℤ, pos, negsuc}
 use Rattle.std.specs.Int.Signed.{le_z}
 pub use Rattle.codec.specs.Printed.{Kind, plain, signed, limited}
-use Rattle.codec.specs.Signed.{to_signed, ofSigned, in_signed}
+use Rattle.codec.specs.Signed.{to_signed, of_signed, in_signed}
 use Rattle.codec.specs.Radix.{total, cut, join, digits, eights}
 use Rattle.codec.specs.Codec.{Codec, via, guard, number}
 
@@ -21,22 +21,22 @@ pub record Line : Type 0 where
 
 -- ---- one number: from its bits, to its bits, whether it fits them, whether it is within its limits
 
-unfoldable pub toNum : Kind → ℕ → ℕ → ℤ
-toNum plain w d = pos d
-toNum signed w d = to_signed (2 ^ w) d
-toNum (limited lo hi) w d = to_signed (2 ^ w) d
+unfoldable pub to_num : Kind → ℕ → ℕ → ℤ
+to_num plain w d = pos d
+to_num signed w d = to_signed (2 ^ w) d
+to_num (limited lo hi) w d = to_signed (2 ^ w) d
 
-unfoldable pub ofNum : Kind → ℕ → ℤ → ℕ
-ofNum plain w (pos n) = n
-ofNum plain w (negsuc n) = 0
-ofNum signed w z = ofSigned (2 ^ w) z
-ofNum (limited lo hi) w z = ofSigned (2 ^ w) z
+unfoldable pub of_num : Kind → ℕ → ℤ → ℕ
+of_num plain w (pos n) = n
+of_num plain w (negsuc n) = 0
+of_num signed w z = of_signed (2 ^ w) z
+of_num (limited lo hi) w z = of_signed (2 ^ w) z
 
-unfoldable pub inNum : Kind → ℕ → ℤ → Bool
-inNum plain w (pos n) = ltb n (2 ^ w)
-inNum plain w (negsuc n) = false
-inNum signed w z = in_signed (2 ^ w) z
-inNum (limited lo hi) w z = in_signed (2 ^ w) z
+unfoldable pub in_num : Kind → ℕ → ℤ → Bool
+in_num plain w (pos n) = ltb n (2 ^ w)
+in_num plain w (negsuc n) = false
+in_num signed w z = in_signed (2 ^ w) z
+in_num (limited lo hi) w z = in_signed (2 ^ w) z
 
 unfoldable pub limit : Kind → ℤ → Bool
 limit plain z = true
@@ -70,28 +70,28 @@ nums [] ds = []
 nums (spare w ∷ ps) [] = []
 nums (spare w ∷ ps) (d ∷ ds) = nums ps ds
 nums (num k w ∷ ps) [] = []
-nums (num k w ∷ ps) (d ∷ ds) = toNum k w d ∷ nums ps ds
+nums (num k w ∷ ps) (d ∷ ds) = to_num k w d ∷ nums ps ds
 
 -- the digits of the numbers, 0 for a spare
 unfoldable pub unnums : List Piece → List ℤ → List ℕ
 unnums [] zs = []
 unnums (spare w ∷ ps) zs = 0 ∷ unnums ps zs
 unnums (num k w ∷ ps) [] = []
-unnums (num k w ∷ ps) (z ∷ zs) = ofNum k w z ∷ unnums ps zs
+unnums (num k w ∷ ps) (z ∷ zs) = of_num k w z ∷ unnums ps zs
 
 -- one number for each piece that is not spare, and each fits its bits
-unfoldable pub fitNums : List Piece → List ℤ → Bool
-fitNums [] [] = true
-fitNums [] (z ∷ zs) = false
-fitNums (spare w ∷ ps) zs = fitNums ps zs
-fitNums (num k w ∷ ps) [] = false
-fitNums (num k w ∷ ps) (z ∷ zs) = inNum k w z && fitNums ps zs
+unfoldable pub fit_nums : List Piece → List ℤ → Bool
+fit_nums [] [] = true
+fit_nums [] (z ∷ zs) = false
+fit_nums (spare w ∷ ps) zs = fit_nums ps zs
+fit_nums (num k w ∷ ps) [] = false
+fit_nums (num k w ∷ ps) (z ∷ zs) = in_num k w z && fit_nums ps zs
 
-unfoldable pub inLimits : List Piece → List ℤ → Bool
-inLimits [] zs = true
-inLimits (spare w ∷ ps) zs = inLimits ps zs
-inLimits (num k w ∷ ps) [] = true
-inLimits (num k w ∷ ps) (z ∷ zs) = limit k z && inLimits ps zs
+unfoldable pub in_limits : List Piece → List ℤ → Bool
+in_limits [] zs = true
+in_limits (spare w ∷ ps) zs = in_limits ps zs
+in_limits (num k w ∷ ps) [] = true
+in_limits (num k w ∷ ps) (z ∷ zs) = limit k z && in_limits ps zs
 
 -- ---- the codec of a line: tried for 5, 6, 8
 
@@ -109,8 +109,8 @@ cells l =
 
 unfoldable pub line : Line → Codec Held
 line l =
-    guard 8 (λ v. inLimits l.pieces v.1)
-    (via (λ p. (p.0, nums l.pieces p.1)) (λ q. (q.0, unnums l.pieces q.1)) (λ q. fitNums l.pieces q.1)
+    guard 8 (λ v. in_limits l.pieces v.1)
+    (via (λ p. (p.0, nums l.pieces p.1)) (λ q. (q.0, unnums l.pieces q.1)) (λ q. fit_nums l.pieces q.1)
     (guard 6 (λ p. clear l.pieces p.1) (cells l)))
 
 -- the pieces and the bits below them fill the octets

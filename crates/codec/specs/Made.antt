@@ -3,7 +3,7 @@ use Rattle.std.specs.Prelude.{List, [], ◌∷◌, ℕ, suc, ◌-◌}
 use Prim.Native.String.{String}
 use Rattle.codec.specs.Line.{Piece, spare, num, Line}
 use Rattle.codec.specs.Item.{Item, chained, single}
-use Rattle.codec.specs.Printed.{Run, spares, number, Structure, Entry, compound, fixed, index_of, numberNames}
+use Rattle.codec.specs.Printed.{Run, spares, number, Structure, Entry, compound, fixed, index_of, number_names}
 
 abbrev pub piece_of : Run → Piece
 piece_of (spares hi lo) = spare (suc hi - lo)
@@ -20,12 +20,12 @@ abbrev pub parts_of : List Structure → List Line
 parts_of [] = []
 parts_of (s ∷ ss) = line_of 1 0 s ∷ parts_of ss
 
-abbrev pub subfieldsOf : List String → List Structure → List Line
-subfieldsOf names [] = []
-subfieldsOf names (s ∷ ss) = line_of 0 (index_of s.name names) s ∷ subfieldsOf names ss
+abbrev pub subfields_of : List String → List Structure → List Line
+subfields_of names [] = []
+subfields_of names (s ∷ ss) = line_of 0 (index_of s.name names) s ∷ subfields_of names ss
 
 abbrev pub item_of : Entry → Item
-item_of (compound name p qs ss) = chained (line_of 1 0 p) (parts_of qs) (subfieldsOf (numberNames (p ∷ qs)) ss)
+item_of (compound name p qs ss) = chained (line_of 1 0 p) (parts_of qs) (subfields_of (number_names (p ∷ qs)) ss)
 item_of (fixed s) = single (line_of 0 0 s)
 
 abbrev pub made : List Entry → List Item

@@ -4,14 +4,14 @@ use Rattle.std.specs.Prelude.{◌≡◌, List, [], ◌∷◌, ◌++◌, ℕ, suc
 use Prim.Native.String.{String}
 use Rattle.std.specs.Int.Signed.{le_z}
 use Rattle.codec.specs.Printed.{Kind, plain, signed, limited, Run, spares, number, Structure, Entry, compound}
-use Rattle.codec.specs.Printed.{fixed, index_of, numberNames}
+use Rattle.codec.specs.Printed.{fixed, index_of, number_names}
 
 -- ---- bits and numbers
 
 -- "Numbers have their high octet first"
-unfoldable pub bigEndian : List ℕ → ℕ
-bigEndian [] = 0
-bigEndian (o ∷ os) = o * 2 ^ (8 * length os) + bigEndian os
+unfoldable pub big_endian : List ℕ → ℕ
+big_endian [] = 0
+big_endian (o ∷ os) = o * 2 ^ (8 * length os) + big_endian os
 
 -- bits hi/lo of a number; bit 1 is the lowest
 unfoldable pub bits_of : ℕ → ℕ → ℕ → ℕ
@@ -50,60 +50,60 @@ Within n (spares hi lo ∷ rs) = Within n rs
 Within n (number k hi lo q ∷ rs) = Inside k (value_of n k hi lo) × Within n rs
 
 -- one number for each run that is not spare
-unfoldable pub numbersOf : ℕ → List Run → List ℤ
-numbersOf n [] = []
-numbersOf n (spares hi lo ∷ rs) = numbersOf n rs
-numbersOf n (number k hi lo q ∷ rs) = value_of n k hi lo ∷ numbersOf n rs
+unfoldable pub numbers_of : ℕ → List Run → List ℤ
+numbers_of n [] = []
+numbers_of n (spares hi lo ∷ rs) = numbers_of n rs
+numbers_of n (number k hi lo q ∷ rs) = value_of n k hi lo ∷ numbers_of n rs
 
 pub record IsLine (s : Structure) (os : List ℕ) (zs : List ℤ) : Type 0 where
   pub long : length os ≡ s.octets
-  pub clear : Clear (bigEndian os) s.runs
-  pub within : Within (bigEndian os) s.runs
-  pub numbers : zs ≡ numbersOf (bigEndian os) s.runs
+  pub clear : Clear (big_endian os) s.runs
+  pub within : Within (big_endian os) s.runs
+  pub numbers : zs ≡ numbers_of (big_endian os) s.runs
 
 -- what is absent has zeros
-abbrev pub zerosFor : List Structure → List ℤ
-zerosFor ss = replicate (length (numberNames ss)) (pos 0)
+abbrev pub zeros_for : List Structure → List ℤ
+zeros_for ss = replicate (length (number_names ss)) (pos 0)
 
 -- ---- a chain: "one part, followed, where its FX bit is 1, by the rest of the chain". How many parts are there, and
 -- the numbers of all that are defined
 
-abbrev pub fxBit : List ℕ → ℕ
-fxBit os = bits_of (bigEndian os) 1 1
+abbrev pub fx_bit : List ℕ → ℕ
+fx_bit os = bits_of (big_endian os) 1 1
 
 pub data IsChain : List Structure → List ℕ → ℕ → List ℤ → Type 0 where
-  last : {p : Structure} {ps : List Structure} {os : List ℕ} {zs : List ℤ} → IsLine p os zs → fxBit os ≡ 0
-      → IsChain (p ∷ ps) os 1 (zs ++ zerosFor ps)
+  last : {p : Structure} {ps : List Structure} {os : List ℕ} {zs : List ℤ} → IsLine p os zs → fx_bit os ≡ 0
+      → IsChain (p ∷ ps) os 1 (zs ++ zeros_for ps)
   more : {p : Structure} {ps : List Structure} {os rest : List ℕ} {n : ℕ} {zs ys : List ℤ} → IsLine p os zs
-      → fxBit os ≡ 1 → IsChain ps rest n ys
+      → fx_bit os ≡ 1 → IsChain ps rest n ys
       → IsChain (p ∷ ps) (os ++ rest) (suc n) (zs ++ ys)
 
 -- ---- the subfields: exactly those are there whose bit in the primary subfield is 1. names and bits are those of the
 -- primary subfield
 
-abbrev pub flagOf : List String → List ℤ → Structure → ℤ
-flagOf names bits s = get_or bits (index_of s.name names) (pos 0)
+abbrev pub flag_of : List String → List ℤ → Structure → ℤ
+flag_of names bits s = get_or bits (index_of s.name names) (pos 0)
 
 pub data AreSubfields (names : List String) (bits : List ℤ) : List Structure → List ℕ → List ℤ → Type 0 where
   none : AreSubfields names bits [] [] []
-  there : {s : Structure} {ss : List Structure} {os rest : List ℕ} {zs ys : List ℤ} → flagOf names bits s ≡ pos 1
+  there : {s : Structure} {ss : List Structure} {os rest : List ℕ} {zs ys : List ℤ} → flag_of names bits s ≡ pos 1
       → IsLine s os zs → AreSubfields names bits ss rest ys
       → AreSubfields names bits (s ∷ ss) (os ++ rest) (zs ++ ys)
-  absent : {s : Structure} {ss : List Structure} {rest : List ℕ} {ys : List ℤ} → (flagOf names bits s ≡ pos 1 → ⊥)
+  absent : {s : Structure} {ss : List Structure} {rest : List ℕ} {ys : List ℤ} → (flag_of names bits s ≡ pos 1 → ⊥)
       → AreSubfields names bits ss rest ys
-      → AreSubfields names bits (s ∷ ss) rest (zerosFor (s ∷ []) ++ ys)
+      → AreSubfields names bits (s ∷ ss) rest (zeros_for (s ∷ []) ++ ys)
 
 -- ---- an item: its octets, the parts of its chain, its numbers
 
 pub data IsItem : Entry → List ℕ → ℕ → List ℤ → Type 0 where
-  is-compound : {name : String} {p : Structure} {qs ss : List Structure} {os rest : List ℕ} {n : ℕ} {zs ys : List ℤ}
+  is_compound : {name : String} {p : Structure} {qs ss : List Structure} {os rest : List ℕ} {n : ℕ} {zs ys : List ℤ}
       → IsChain (p ∷ qs) os n zs
-      → AreSubfields (numberNames (p ∷ qs)) zs ss rest ys → IsItem (compound name p qs ss) (os ++ rest) n (zs ++ ys)
-  is-fixed : {s : Structure} {os : List ℕ} {zs : List ℤ} → IsLine s os zs → IsItem (fixed s) os 0 zs
+      → AreSubfields (number_names (p ∷ qs)) zs ss rest ys → IsItem (compound name p qs ss) (os ++ rest) n (zs ++ ys)
+  is_fixed : {s : Structure} {os : List ℕ} {zs : List ℤ} → IsLine s os zs → IsItem (fixed s) os 0 zs
 
-abbrev pub zerosIn : Entry → List ℤ
-zerosIn (compound name p qs ss) = zerosFor (p ∷ qs) ++ zerosFor ss
-zerosIn (fixed s) = zerosFor (s ∷ [])
+abbrev pub zeros_in : Entry → List ℤ
+zeros_in (compound name p qs ss) = zeros_for (p ∷ qs) ++ zeros_for ss
+zeros_in (fixed s) = zeros_for (s ∷ [])
 
 -- ---- the items behind each other, "in the order of their indicator bits, bit 8 first": the highest bit that is
 -- looked at is that of the first item
@@ -115,7 +115,7 @@ pub data AreItems (indicator : ℕ) : ℕ → List Entry → List ℕ → List (
       → AreItems indicator b es rest vs → AreItems indicator (suc b) (e ∷ es) (os ++ rest) ((n, zs) ∷ vs)
   no_item : {b : ℕ} {e : Entry} {es : List Entry} {rest : List ℕ} {vs : List (ℕ × List ℤ)}
       → bits_of indicator (suc b) (suc b) ≡ 0
-      → AreItems indicator b es rest vs → AreItems indicator (suc b) (e ∷ es) rest ((0, zerosIn e) ∷ vs)
+      → AreItems indicator b es rest vs → AreItems indicator (suc b) (e ∷ es) rest ((0, zeros_in e) ∷ vs)
 
 -- ---- a field. LEN, 0 where there is none
 

@@ -48,30 +48,30 @@ abbrev pub text : String → List ℕ
 text [] = none
 text (c ∷ s) = code_of c then text s
 
-abbrev pub sameText : List ℕ → List ℕ → Bool
-sameText none none = true
-sameText none (y then ys) = false
-sameText (x then xs) none = false
-sameText (x then xs) (y then ys) = eqb x y && sameText xs ys
+abbrev pub same_text : List ℕ → List ℕ → Bool
+same_text none none = true
+same_text none (y then ys) = false
+same_text (x then xs) none = false
+same_text (x then xs) (y then ys) = eqb x y && same_text xs ys
 
 -- the place of a name among names, the first of them 0
 abbrev pub index_of : String → List String → ℕ
 index_of s none = 0
-index_of s (t then ts) = pick (sameText (text s) (text t)) 0 (suc (index_of s ts))
+index_of s (t then ts) = pick (same_text (text s) (text t)) 0 (suc (index_of s ts))
 
-abbrev pub runNames : List Run → List String
-runNames none = none
-runNames (spares hi lo then rs) = runNames rs
-runNames (number k hi lo q then rs) = q.name then runNames rs
+abbrev pub run_names : List Run → List String
+run_names none = none
+run_names (spares hi lo then rs) = run_names rs
+run_names (number k hi lo q then rs) = q.name then run_names rs
 
 -- the names of the numbers of some structures
-abbrev pub numberNames : List Structure → List String
-numberNames none = none
-numberNames (s then ss) = runNames s.runs ++ numberNames ss
+abbrev pub number_names : List Structure → List String
+number_names none = none
+number_names (s then ss) = run_names s.runs ++ number_names ss
 
-abbrev pub subfieldNames : List Structure → List String
-subfieldNames none = none
-subfieldNames (s then ss) = s.name then subfieldNames ss
+abbrev pub subfield_names : List Structure → List String
+subfield_names none = none
+subfield_names (s then ss) = s.name then subfield_names ss
 
 -- ---- a paper is printed right if the runs of each structure follow each other from its highest bit down to bit 1,
 -- or 2 in a part, and if the bits of a primary subfield have the names of the subfields, where there are any
@@ -89,32 +89,32 @@ adjacent hi below none = eqb hi below
 adjacent hi below (r then rs) = eqb (top r) hi && (leb (bottom r) (top r) && (ltb below (bottom r)
     && adjacent (bottom r - 1) below rs))
 
-unfoldable pub rightAll : ℕ → List Structure → Bool
-rightAll below none = true
-rightAll below (s then ss) = adjacent (8 * s.octets) below s.runs && rightAll below ss
+unfoldable pub right_all : ℕ → List Structure → Bool
+right_all below none = true
+right_all below (s then ss) = adjacent (8 * s.octets) below s.runs && right_all below ss
 
-abbrev pub sameNames : List String → List String → Bool
-sameNames none none = true
-sameNames none (y then ys) = false
-sameNames (x then xs) none = false
-sameNames (x then xs) (y then ys) = sameText (text x) (text y) && sameNames xs ys
+abbrev pub same_names : List String → List String → Bool
+same_names none none = true
+same_names none (y then ys) = false
+same_names (x then xs) none = false
+same_names (x then xs) (y then ys) = same_text (text x) (text y) && same_names xs ys
 
-unfoldable pub rightFlags : List String → List String → Bool
-rightFlags flags none = true
-rightFlags flags (s then ss) = sameNames flags (s then ss)
+unfoldable pub right_flags : List String → List String → Bool
+right_flags flags none = true
+right_flags flags (s then ss) = same_names flags (s then ss)
 
-unfoldable pub rightEntry : Entry → Bool
-rightEntry (compound name p qs ss) = rightAll 1 (p then qs) && (rightAll 0 ss
-    && rightFlags (numberNames (p then qs)) (subfieldNames ss))
-rightEntry (fixed s) = rightAll 0 (s then none)
+unfoldable pub right_entry : Entry → Bool
+right_entry (compound name p qs ss) = right_all 1 (p then qs) && (right_all 0 ss
+    && right_flags (number_names (p then qs)) (subfield_names ss))
+right_entry (fixed s) = right_all 0 (s then none)
 
 unfoldable pub right : List Entry → Bool
 right none = true
-right (e then es) = rightEntry e && right es
+right (e then es) = right_entry e && right es
 
 -- ---- the items that a paper has, by their names
 
-abbrev pub entryNames : List Entry → List String
-entryNames none = none
-entryNames (compound name p qs ss then es) = name then entryNames es
-entryNames (fixed s then es) = s.name then entryNames es
+abbrev pub entry_names : List Entry → List String
+entry_names none = none
+entry_names (compound name p qs ss then es) = name then entry_names es
+entry_names (fixed s then es) = s.name then entry_names es

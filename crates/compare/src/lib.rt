@@ -1,7 +1,7 @@
 // Two texts beside each other: whether one begins with the other, and the first line in which they differ.
 // Promises: each is one equation of guess's definitions, for any two texts. Stands on no code.
 ghost use Rattle.std.specs.Prelude.{◌≡◌, ◌<◌};
-ghost use Rattle.guess.specs.Guess.{begins, firstWrong};
+ghost use Rattle.guess.specs.Guess.{begins, first_wrong};
 ghost use Rattle.compare.specs.Lines.{counted};
 
 // Whether a text begins with a word.
@@ -34,7 +34,7 @@ fn count(k: usize, o: u8) -> usize
 
 // The line, from 1, in which two texts differ first; 0 if they are the same.
 pub fn first_wrong(s: &[u8], t: &[u8]) -> usize
-    ensures { result ≡ firstWrong 1 s.now t.now }
+    ensures { result ≡ first_wrong 1 s.now t.now }
 {
     let mut i: usize = 0;
     let mut k: usize = 0;

@@ -4,13 +4,13 @@
 -- Octets s: each element is below 256, as in every slice of octets. Terms has the words and where each is defined.
 use Rattle.demands.specs.Terms.{◌≡◌, ◌≢◌, false, List, [], ◌∷◌, ◌++◌, ℕ, zero, suc, ◌+◌, ◌-◌, ◌≤◌, ◌<◌, T, ℤ}
 use Rattle.demands.specs.Terms.{length, take, drop, set, Octets, len_of, Whole, Change, remove, put, alone}
-use Rattle.demands.specs.Terms.{newOctets, newFlag, Entry, IsItem, zerosIn, HasLayout, Contents, known}
-use Rattle.demands.specs.Terms.{printedOf}
-use Rattle.demands.specs.Terms.{itemsOf, Record, Reading, Answer, Accepted, Refused, View, Shown, Hidden}
+use Rattle.demands.specs.Terms.{new_octets, new_flag, Entry, IsItem, zeros_in, HasLayout, Contents, known}
+use Rattle.demands.specs.Terms.{printed_of}
+use Rattle.demands.specs.Terms.{items_of, Record, Reading, Answer, Accepted, Refused, View, Shown, Hidden}
 use Rattle.demands.specs.Terms.{Which, Choice}
-use Rattle.demands.specs.Terms.{Neither, Base, Correction, noRecord, sheetOf, Nearest, recordOf, IsField}
+use Rattle.demands.specs.Terms.{Neither, Base, Correction, no_record, sheet_of, Nearest, record_of, IsField}
 use Rattle.demands.specs.Terms.{HasField, Fault}
-use Rattle.demands.specs.Terms.{Judged, numbered, bit_of, withBit, refusedBy, handedOut}
+use Rattle.demands.specs.Terms.{Judged, numbered, bit_of, with_bit, refused_by, handed_out}
 
 -- what the operations compute. An operation with an output is given what stands there before, and gives its answer
 -- and what stands there afterwards
@@ -47,13 +47,13 @@ parts p cat s i (suc n) = p.part cat s (suc i) ++ parts p cat s (suc i) n
 -- "either a removal or new octets that are by themselves a correct item of that kind": the bit of the item, its parts
 -- and its numbers are then these
 pub data NewItem (e : Entry) : Change → ℕ → ℕ × List ℤ → Type 0 where
-  removal : NewItem e remove 0 (0, zerosIn e)
+  removal : NewItem e remove 0 (0, zeros_in e)
   correct : {t : List ℕ} {n : ℕ} {zs : List ℤ} → IsItem e t n zs → NewItem e (put t) 1 (n, zs)
 
 -- "New octets are right exactly if the field made of LEN, an indicator with that one bit, and these octets is
 -- accepted; no octets, or more than 253, gives 14"
 pub data WrongNew (cat item : ℕ) : Change → Type 0 where
-  no-octets : WrongNew cat item (put [])
+  no_octets : WrongNew cat item (put [])
   too_many : {t : List ℕ} → 253 < length t → WrongNew cat item (put t)
   no_item : {t : List ℕ} {n q : ℕ} → Fault cat (alone (item - 1) t) n q → WrongNew cat item (put t)
 
@@ -61,11 +61,11 @@ pub data WrongNew (cat item : ℕ) : Change → Type 0 where
 pub record Taken (cat : ℕ) (s : List ℕ) (list item : ℕ) (ch : Change) : Type 0 where
   pub known_is : T (known cat)
   pub was : Contents
-  pub field : HasLayout (printedOf cat) (take (len_of s) s) was
+  pub field : HasLayout (printed_of cat) (take (len_of s) s) was
   pub before : List Entry
   pub entry : Entry
   pub behind : List Entry
-  pub paper : printedOf cat ≡ before ++ (entry ∷ behind)
+  pub paper : printed_of cat ≡ before ++ (entry ∷ behind)
   pub turn : item ≡ suc (length before)
   pub on_list : bit_of list item ≡ 1
   pub bit : ℕ
@@ -75,7 +75,7 @@ pub record Taken (cat : ℕ) (s : List ℕ) (list item : ℕ) (ch : Change) : Ty
 -- the record "with that one item added, replaced or removed"
 abbrev pub changed : {cat : ℕ} {s : List ℕ} {list item : ℕ} {ch : Change} → Taken cat s list item ch → Record
 changed {cat} {s} {list} {item} {ch} t =
-    recordOf cat (withBit t.was.0 item t.bit, set t.was.1 (item - 1) t.value)
+    record_of cat (with_bit t.was.0 item t.bit, set t.was.1 (item - 1) t.value)
 
 module _ (p : Program) where
   -- what is shown of an item, and the part; what is chosen, and the part
@@ -93,24 +93,24 @@ module _ (p : Program) where
   pub record OfFault (cat : ℕ) (s : List ℕ) (n q : ℕ) : Type 0 where
     pub numbers : (1 ≤ n) × (n ≤ 9)
     pub place : q ≤ len_of s
-    pub read : p.read cat s ≡ record { answer = Refused n q; kept = noRecord }
-    pub edit : (list item : ℕ) (ch : Change) (out : List ℕ) → p.edit cat s list item ch out ≡ refusedBy n q out
+    pub read : p.read cat s ≡ record { answer = Refused n q; kept = no_record }
+    pub edit : (list item : ℕ) (ch : Change) (out : List ℕ) → p.edit cat s list item ch out ≡ refused_by n q out
     pub view : (item : ℕ) → Shows cat s item (Hidden n q) []
-    pub choose-base : T (known cat) → (c : List ℕ) (item : ℕ) → Chooses cat s c item Base (Hidden n q) []
-    pub choose-correction : {b : List ℕ} {f : Record} → Octets b → IsField cat b f → (item : ℕ)
+    pub choose_base : T (known cat) → (c : List ℕ) (item : ℕ) → Chooses cat s c item Base (Hidden n q) []
+    pub choose_correction : {b : List ℕ} {f : Record} → Octets b → IsField cat b f → (item : ℕ)
         → Chooses cat b s item Correction (Hidden n q) []
 
   -- a field: 12, 13, 14 of an edit (what follows is Demand3), 12, 15 of a view
   pub record OfField (cat : ℕ) (s : List ℕ) (f : Record) : Type 0 where
-    pub edit-no-item : (list item : ℕ) (ch : Change) (out : List ℕ) → numbered cat item ≡ false
-        → p.edit cat s list item ch out ≡ refusedBy 12 0 out
-    pub edit-off-list : (list item : ℕ) (ch : Change) (out : List ℕ) → list < 256 → T (numbered cat item)
-        → bit_of list item ≢ 1 → p.edit cat s list item ch out ≡ refusedBy 13 0 out
-    pub edit-wrong : (list item : ℕ) (ch : Change) (out : List ℕ) → list < 256 → T (numbered cat item)
-        → bit_of list item ≡ 1 → Octets (newOctets ch) → WrongNew cat item ch
-        → p.edit cat s list item ch out ≡ refusedBy 14 0 out
-    pub view-no-item : (item : ℕ) → numbered cat item ≡ false → Shows cat s item (Hidden 12 0) []
-    pub view-absent : (item : ℕ) → T (numbered cat item) → bit_of f.items item ≢ 1
+    pub edit_no_item : (list item : ℕ) (ch : Change) (out : List ℕ) → numbered cat item ≡ false
+        → p.edit cat s list item ch out ≡ refused_by 12 0 out
+    pub edit_off_list : (list item : ℕ) (ch : Change) (out : List ℕ) → list < 256 → T (numbered cat item)
+        → bit_of list item ≢ 1 → p.edit cat s list item ch out ≡ refused_by 13 0 out
+    pub edit_wrong : (list item : ℕ) (ch : Change) (out : List ℕ) → list < 256 → T (numbered cat item)
+        → bit_of list item ≡ 1 → Octets (new_octets ch) → WrongNew cat item ch
+        → p.edit cat s list item ch out ≡ refused_by 14 0 out
+    pub view_no_item : (item : ℕ) → numbered cat item ≡ false → Shows cat s item (Hidden 12 0) []
+    pub view_absent : (item : ℕ) → T (numbered cat item) → bit_of f.items item ≢ 1
         → Shows cat s item (Hidden 15 0) []
 
   -- two fields, a base and a correction: 12, 15 of the choice
@@ -128,15 +128,15 @@ module _ (p : Program) where
     pub field : (cat : ℕ) (s : List ℕ) (f : Record) → Octets s → IsField cat s f → OfField cat s f
     pub fields : (cat : ℕ) (b : List ℕ) (f : Record) (s : List ℕ) (g : Record) → Octets b → IsField cat b f → Octets s
         → IsField cat s g → OfFields cat b f s g
-    pub choose-unknown : (cat : ℕ) (b s : List ℕ) (item : ℕ) → known cat ≡ false
+    pub choose_unknown : (cat : ℕ) (b s : List ℕ) (item : ℕ) → known cat ≡ false
         → Chooses cat b s item Neither (Hidden 1 0) []
     -- writer: 1, 10 where no field reads to the record, 11 where its field has no room. The sheet: 11
-    pub write-unknown : (f : Record) (out : List ℕ) → known f.cat ≡ false → p.write f out ≡ refusedBy 1 0 out
-    pub write-no-field : (f : Record) (out : List ℕ) → T (known f.cat)
-        → ((s : List ℕ) → Octets s → IsField f.cat s f → ⊥) → p.write f out ≡ refusedBy 10 0 out
-    pub write-no-room : (f : Record) (out s : List ℕ) → Octets s → IsField f.cat s f → length out < len_of s
-        → p.write f out ≡ refusedBy 11 0 out
-    pub sheet-no-room : (s out : List ℕ) → length out < length (sheetOf s) → p.sheet s out ≡ refusedBy 11 0 out
+    pub write_unknown : (f : Record) (out : List ℕ) → known f.cat ≡ false → p.write f out ≡ refused_by 1 0 out
+    pub write_no_field : (f : Record) (out : List ℕ) → T (known f.cat)
+        → ((s : List ℕ) → Octets s → IsField f.cat s f → ⊥) → p.write f out ≡ refused_by 10 0 out
+    pub write_no_room : (f : Record) (out s : List ℕ) → Octets s → IsField f.cat s f → length out < len_of s
+        → p.write f out ≡ refused_by 11 0 out
+    pub sheet_no_room : (s out : List ℕ) → length out < length (sheet_of s) → p.sheet s out ≡ refused_by 11 0 out
 
   -- ---- demand 2, of a field s with the record f
 
@@ -147,9 +147,9 @@ module _ (p : Program) where
     pub accepted : p.read cat s ≡ record { answer = Accepted (len_of s); kept = f }
     pub filled : length (take (len_of s) s) ≡ len_of s
     -- "Writing what was read gives back the same octets"
-    pub written : (out : List ℕ) → len_of s ≤ length out → p.write f out ≡ handedOut (take (len_of s) s) out
+    pub written : (out : List ℕ) → len_of s ≤ length out → p.write f out ≡ handed_out (take (len_of s) s) out
     -- the parts are those of the field, one behind the other, and the view of one that is there says where it stands
-    pub parts_are : take (len_of s) s ≡ len_of s ∷ f.items ∷ parts p cat s 0 (itemsOf cat)
+    pub parts_are : take (len_of s) s ≡ len_of s ∷ f.items ∷ parts p cat s 0 (items_of cat)
     pub shown : (item : ℕ) → T (numbered cat item) → bit_of f.items item ≡ 1
         → p.view cat s item ≡ Shown (2 + length (parts p cat s 0 (item - 1))) (length (p.part cat s item))
     -- as a correction of a base: its own part if it has the item, else the base's own part
@@ -161,21 +161,21 @@ module _ (p : Program) where
 
   pub record Demand2 : Type 0 where
     pub fields : (cat : ℕ) (s : List ℕ) (f : Record) → Octets s → IsField cat s f → Reads cat s f
-    pub only-fields : (cat : ℕ) (s : List ℕ) (n : ℕ) → Octets s → (p.read cat s).answer ≡ Accepted n
+    pub only_fields : (cat : ℕ) (s : List ℕ) (n : ℕ) → Octets s → (p.read cat s).answer ≡ Accepted n
         → IsField cat s (p.read cat s).kept
     -- "and reading what was written gives back the same record", whatever stands behind it
     pub read_back : (f : Record) (out : List ℕ) (n : ℕ) → (p.write f out).0 ≡ Accepted n
         → p.read f.cat (p.write f out).1 ≡ record { answer = Accepted n; kept = f }
     -- the sheet is the whole text, and the angles on it are the nearest
-    pub listed : (s out : List ℕ) → length (sheetOf s) ≤ length out → p.sheet s out ≡ handedOut (sheetOf s) out
+    pub listed : (s out : List ℕ) → length (sheet_of s) ≤ length out → p.sheet s out ≡ handed_out (sheet_of s) out
     pub angles : (n : ℤ) → Nearest n (p.udeg n)
     -- octets from LEN on, x or y behind a t that has LEN and all that it counts, change nothing, in a refused field
     -- neither
-    pub reads-alike : (cat : ℕ) (t x y : List ℕ) → Whole t → p.read cat (t ++ x) ≡ p.read cat (t ++ y)
-    pub sheets-alike : (cat : ℕ) (t x y : List ℕ) → Whole t → sheetOf (cat ∷ (t ++ x)) ≡ sheetOf (cat ∷ (t ++ y))
-    pub edits-alike : (cat : ℕ) (t x y : List ℕ) → Whole t → (list item : ℕ) (ch : Change) (out : List ℕ)
+    pub reads_alike : (cat : ℕ) (t x y : List ℕ) → Whole t → p.read cat (t ++ x) ≡ p.read cat (t ++ y)
+    pub sheets_alike : (cat : ℕ) (t x y : List ℕ) → Whole t → sheet_of (cat ∷ (t ++ x)) ≡ sheet_of (cat ∷ (t ++ y))
+    pub edits_alike : (cat : ℕ) (t x y : List ℕ) → Whole t → (list item : ℕ) (ch : Change) (out : List ℕ)
         → p.edit cat (t ++ x) list item ch out ≡ p.edit cat (t ++ y) list item ch out
-    pub views-alike : (cat : ℕ) (t x y : List ℕ) → Whole t → Octets (t ++ x) → (item : ℕ)
+    pub views_alike : (cat : ℕ) (t x y : List ℕ) → Whole t → Octets (t ++ x) → (item : ℕ)
         → Shows cat (t ++ x) item (p.view cat (t ++ y) item) (p.part cat (t ++ y) item)
     pub choices_alike : (cat : ℕ) (t x y u v w : List ℕ) → Whole t → Whole u → (item : ℕ)
         → p.choose cat (t ++ x) (u ++ v) item ≡ p.choose cat (t ++ y) (u ++ w) item
@@ -187,7 +187,7 @@ module _ (p : Program) where
     -- or removed": what writing the changed record gives, which some field reads to
     pub afresh : (t : Taken cat s list item ch) → p.edit cat s list item ch out ≡ p.write (changed t) out
     pub result : (t : Taken cat s list item ch) → HasField (changed t)
-    pub only-these : (n : ℕ) → (p.edit cat s list item ch out).0 ≡ Accepted n → Taken cat s list item ch
+    pub only_these : (n : ℕ) → (p.edit cat s list item ch out).0 ≡ Accepted n → Taken cat s list item ch
     -- "Every other item keeps its octets"
     pub others : (n : ℕ) → (p.edit cat s list item ch out).0 ≡ Accepted n → (j : ℕ) → T (numbered cat j) → j ≢ item
         → p.part cat (p.edit cat s list item ch out).1 j ≡ p.part cat s j
@@ -195,15 +195,15 @@ module _ (p : Program) where
     -- it, the item, the items behind it
     pub turns : (n : ℕ) → (p.edit cat s list item ch out).0 ≡ Accepted n
         → (p.edit cat s list item ch out).1
-        ≡ (n ∷ withBit (p.read cat s).kept.items item (newFlag ch) ∷ (parts p cat s 0 (item - 1)
-        ++ (newOctets ch ++ parts p cat s item (itemsOf cat - item)))) ++ drop n out
+        ≡ (n ∷ with_bit (p.read cat s).kept.items item (new_flag ch) ∷ (parts p cat s 0 (item - 1)
+        ++ (new_octets ch ++ parts p cat s item (items_of cat - item)))) ++ drop n out
     -- "An item off the list is refused", whatever else is right
     pub off_list : (1 ≤ item → item ≤ 8 → bit_of list item ≢ 1) → (n : ℕ)
         → (p.edit cat s list item ch out).0 ≢ Accepted n
 
   pub record Demand3 : Type 0 where
     pub edits : (cat : ℕ) (s : List ℕ) (list item : ℕ) (ch : Change) (out : List ℕ) → Octets s → list < 256
-        → Octets (newOctets ch) → Octets out → Edits cat s list item ch out
+        → Octets (new_octets ch) → Octets out → Edits cat s list item ch out
 
   pub record Demands : Type 0 where
     pub one : Demand1

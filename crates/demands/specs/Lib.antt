@@ -7,7 +7,6 @@ pub mod Pressure
 pub mod Leftovers
 pub mod Rebuilding
 pub mod Defined
-pub mod Kept
 pub mod Angles
 pub mod RoundTrips
 pub mod Edited

@@ -1,11 +1,11 @@
 -- 12 and 13: what the desk asks of an edit beside the field.
 use Rattle.std.specs.Prelude.{ℕ}
 use Rattle.codec.specs.Pick.{pick}
-use Rattle.papers.specs.Papers.{paperOf}
-use Rattle.scope.specs.Views.{isItem}
+use Rattle.papers.specs.Papers.{paper_of}
+use Rattle.scope.specs.Views.{is_item}
 use Rattle.scope.specs.Desk.{listed}
 
 -- ---- the item and the list: the refusal's number, 0 for none
 
 unfoldable pub asked_of : ℕ → ℕ → ℕ → ℕ
-asked_of cat list item = pick (isItem (paperOf cat) item) (pick (listed list item) 0 13) 12
+asked_of cat list item = pick (is_item (paper_of cat) item) (pick (listed list item) 0 13) 12

@@ -3,9 +3,9 @@ use Rattle.std.specs.Prelude.{◌≡◌, List, ℕ, zero, suc, ◌+◌, ◌-◌,
 use Rattle.layout.specs.declared.Answer.{Answer}
 use Rattle.layout.specs.declared.Answer.TheVariants.{Accepted, Refused}
 use Rattle.layout.specs.declared.Surveyed.{Surveyed}
-use Rattle.scope.specs.Survey.{surveyOf}
+use Rattle.scope.specs.Survey.{survey_of}
 use Rattle.desk.specs.Asking.{asked_of}
-use Rattle.desk.specs.Splicing.{spliceOf}
+use Rattle.desk.specs.Splicing.{splice_of}
 
 -- ---- the refusals before the octets are looked at
 
@@ -13,17 +13,17 @@ abbrev pub with_number : ℕ → Surveyed → Surveyed
 with_number zero v = v
 with_number (suc n) v = record { answer = Refused (suc n) 0; items = v.items; starts = v.starts }
 
-abbrev pub allowedBy : ℕ → Surveyed → Answer → Surveyed
-allowedBy m v (Accepted n) = with_number m v
-allowedBy m v (Refused n p) = v
+abbrev pub allowed_by : ℕ → Surveyed → Answer → Surveyed
+allowed_by m v (Accepted n) = with_number m v
+allowed_by m v (Refused n p) = v
 
 -- what a survey tells, with 12 or 13 as the answer of a field that is right
-unfoldable pub allowedOf : ℕ → List ℕ → ℕ → ℕ → Surveyed
-allowedOf cat s list item = allowedBy (asked_of cat list item) (surveyOf cat s) (surveyOf cat s).answer
+unfoldable pub allowed_of : ℕ → List ℕ → ℕ → ℕ → Surveyed
+allowed_of cat s list item = allowed_by (asked_of cat list item) (survey_of cat s) (survey_of cat s).answer
 
 -- the first len octets of a field with the octets of an item exchanged for t, and the indicator n
-unfoldable pub exchangeOf : ℕ → List ℕ → ℕ → List ℕ → ℕ → List ℕ → List ℕ
-exchangeOf n f len starts item t = spliceOf n (take len f) (get_or starts (item - 1) 0) (get_or starts item 0) t
+unfoldable pub exchange_of : ℕ → List ℕ → ℕ → List ℕ → ℕ → List ℕ → List ℕ
+exchange_of n f len starts item t = splice_of n (take len f) (get_or starts (item - 1) 0) (get_or starts item 0) t
 
 -- the item stands in the field, and the field that comes of it has a LEN
 pub record Exchangeable (f : List ℕ) (len : ℕ) (starts : List ℕ) (item : ℕ) (t : List ℕ) : Type 0 where

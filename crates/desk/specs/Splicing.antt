@@ -2,5 +2,5 @@
 use Rattle.std.specs.Prelude.{List, ◌∷◌, ◌++◌, ℕ, ◌+◌, ◌-◌, length, take, drop}
 
 -- a field whose octets from `from` on and before `to` are exchanged for t, with the indicator n
-unfoldable pub spliceOf : ℕ → List ℕ → ℕ → ℕ → List ℕ → List ℕ
-spliceOf n f from to t = (from + length t + (length f - to)) ∷ n ∷ (take (from - 2) (drop 2 f) ++ (t ++ drop to f))
+unfoldable pub splice_of : ℕ → List ℕ → ℕ → ℕ → List ℕ → List ℕ
+splice_of n f from to t = (from + length t + (length f - to)) ∷ n ∷ (take (from - 2) (drop 2 f) ++ (t ++ drop to f))

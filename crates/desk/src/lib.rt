@@ -4,11 +4,11 @@
 ghost use Rattle.std.specs.Prelude.{◌≡◌, ◌+◌, ◌-◌, ◌≤◌, length};
 ghost use Rattle.std.proofs.lemmas.List.Edits.{sets};
 ghost use Rattle.codec.specs.Change.{remove, put};
-ghost use Rattle.scope.specs.Outputs.{withRoom, Leaves};
+ghost use Rattle.scope.specs.Outputs.{with_room, Leaves};
 ghost use Rattle.scope.specs.Desk.{Edited};
 ghost use Rattle.desk.specs.Asking.{asked_of};
-ghost use Rattle.desk.specs.Splicing.{spliceOf};
-ghost use Rattle.desk.specs.Edits.{allowedOf, Exchangeable, exchangeOf};
+ghost use Rattle.desk.specs.Splicing.{splice_of};
+ghost use Rattle.desk.specs.Edits.{allowed_of, Exchangeable, exchange_of};
 
 use layout::{Answer, Surveyed};
 
@@ -36,7 +36,7 @@ fn paste(from: &[u8], at: usize, octets: &mut [u8])
 // A field with its octets from a place to another exchanged for new ones, and another indicator.
 fn spliced(field: &[u8], items: u8, from: usize, to: usize, new: &[u8], out: &mut [u8]) -> Answer
     requires { (2 ≤ from) × (from ≤ to) × (to ≤ length field.now) × (from + length new.now + (length field.now - to) ≤ 255) }
-    ensures { Leaves (withRoom (length out.old) (spliceOf items field.now from to new.now)) out.old result out.new }
+    ensures { Leaves (with_room (length out.old) (splice_of items field.now from to new.now)) out.old result out.new }
 {
     let n = from + new.len() + (field.len() - to);
     let mut octets = [0u8; 255];
@@ -50,7 +50,7 @@ fn spliced(field: &[u8], items: u8, from: usize, to: usize, new: &[u8], out: &mu
 
 // Where the items of a field stand, with the refusal of the field, 12 or 13 as the answer where there is one.
 fn allowed(cat: u8, field: &[u8], list: u8, item: u8) -> Surveyed
-    ensures { result ≡ allowedOf cat field.now list item }
+    ensures { result ≡ allowed_of cat field.now list item }
 {
     let found = reader::survey(cat, field);
     let a = found.answer;
@@ -80,7 +80,7 @@ fn exchanged(
     out: &mut [u8],
 ) -> Answer
     requires { Exchangeable field.now len starts item new.now }
-    ensures { Leaves (withRoom (length out.old) (exchangeOf items field.now len starts item new.now)) out.old result out.new }
+    ensures { Leaves (with_room (length out.old) (exchange_of items field.now len starts item new.now)) out.old result out.new }
 {
     let i = leaves::wide(item);
     let from = leaves::wide(starts[i - 1]);

@@ -3,16 +3,16 @@
 // Stands on arrays, views, desk, visitors, sheet and rebuild, which it knows by their contracts.
 ghost use Rattle.std.specs.Prelude.{◌≡◌, length};
 ghost use Rattle.codec.specs.Change.{remove, put};
-ghost use Rattle.layout.specs.Answer.{place_of, length_of, viewPlace, viewLength};
+ghost use Rattle.layout.specs.Answer.{place_of, length_of, view_place, view_length};
 ghost use Rattle.scope.specs.Reading.{read_of};
-ghost use Rattle.scope.specs.Outputs.{withRoom};
-ghost use Rattle.scope.specs.Sheet.{sheetOf};
-ghost use Rattle.scope.specs.Views.{view_of, chooseOf};
-ghost use Rattle.scope.specs.Desk.{editOf};
+ghost use Rattle.scope.specs.Outputs.{with_room};
+ghost use Rattle.scope.specs.Sheet.{sheet_of};
+ghost use Rattle.scope.specs.Views.{view_of, choose_of};
+ghost use Rattle.scope.specs.Desk.{edit_of};
 ghost use Rattle.scope.specs.Visitors.{copy_of};
-ghost use Rattle.guess.specs.Guess.{rebuildOf};
-ghost use Rattle.interface.specs.Packed.{word_of, Fit, besideWord, answerWord, sideWord, viewWord, choiceWord, Hands, HandsRebuilt};
-ghost use Rattle.interface.specs.Arrays.{Fills, writeArray};
+ghost use Rattle.guess.specs.Guess.{rebuild_of};
+ghost use Rattle.interface.specs.Packed.{word_of, Fit, beside_word, answer_word, side_word, view_word, choice_word, Hands, HandsRebuilt};
+ghost use Rattle.interface.specs.Arrays.{Fills, write_array};
 
 use layout::{Answer, View};
 
@@ -29,7 +29,7 @@ fn word(number: u8, which: u8, place: usize, size: usize) -> u64
 
 fn beside_word(which: u8, a: Answer) -> u64
     requires { Fit (place_of a) (length_of a) }
-    ensures { result ≡ besideWord which a }
+    ensures { result ≡ beside_word which a }
 {
     match a {
         Answer::Accepted(n) => word(0, which, 0, n),
@@ -39,14 +39,14 @@ fn beside_word(which: u8, a: Answer) -> u64
 
 fn answer_word(a: Answer) -> u64
     requires { Fit (place_of a) (length_of a) }
-    ensures { result ≡ answerWord a }
+    ensures { result ≡ answer_word a }
 {
     beside_word(0, a)
 }
 
 fn side_word(which: u8, v: View) -> u64
-    requires { Fit (viewPlace v) (viewLength v) }
-    ensures { result ≡ sideWord which v }
+    requires { Fit (view_place v) (view_length v) }
+    ensures { result ≡ side_word which v }
 {
     match v {
         View::Shown(from, n) => word(0, which, from, n),
@@ -66,7 +66,7 @@ pub extern "C" fn ref_read(cat: u8, field: &[u8], out: &mut [i32]) -> u64
 // The field of a record's array, into the front of the output.
 #[unsafe(no_mangle)]
 pub extern "C" fn ref_write(a: &[i32], out: &mut [u8]) -> u64
-    ensures { Hands (writeArray a.now (length out.old)) out.old result out.new }
+    ensures { Hands (write_array a.now (length out.old)) out.old result out.new }
 {
     let done = arrays::write_array(a, &mut *out);
     answer_word(done)
@@ -75,7 +75,7 @@ pub extern "C" fn ref_write(a: &[i32], out: &mut [u8]) -> u64
 // Where an item stands in its field.
 #[unsafe(no_mangle)]
 pub extern "C" fn ref_view(cat: u8, field: &[u8], item: u8) -> u64
-    ensures { result ≡ viewWord (view_of cat field.now item) }
+    ensures { result ≡ view_word (view_of cat field.now item) }
 {
     let v = views::view_answer(cat, field, item);
     side_word(0, v)
@@ -84,7 +84,7 @@ pub extern "C" fn ref_view(cat: u8, field: &[u8], item: u8) -> u64
 // Where an item stands in the correction, or else in the base.
 #[unsafe(no_mangle)]
 pub extern "C" fn ref_choose(cat: u8, base: &[u8], correction: &[u8], item: u8) -> u64
-    ensures { result ≡ choiceWord (chooseOf cat base.now correction.now item) }
+    ensures { result ≡ choice_word (choose_of cat base.now correction.now item) }
 {
     let c = views::choose_answer(cat, base, correction, item);
     let w = c.which;
@@ -95,7 +95,7 @@ pub extern "C" fn ref_choose(cat: u8, base: &[u8], correction: &[u8], item: u8) 
 // A field without an item, into the front of the output.
 #[unsafe(no_mangle)]
 pub extern "C" fn ref_remove(cat: u8, field: &[u8], list: u8, item: u8, out: &mut [u8]) -> u64
-    ensures { Hands (editOf cat field.now list item remove (length out.old)) out.old result out.new }
+    ensures { Hands (edit_of cat field.now list item remove (length out.old)) out.old result out.new }
 {
     let done = desk::remove(cat, field, list, item, &mut *out);
     answer_word(done)
@@ -111,7 +111,7 @@ pub extern "C" fn ref_replace(
     new: &[u8],
     out: &mut [u8],
 ) -> u64
-    ensures { Hands (editOf cat field.now list item (put new.now) (length out.old)) out.old result out.new }
+    ensures { Hands (edit_of cat field.now list item (put new.now) (length out.old)) out.old result out.new }
 {
     let done = desk::replace(cat, field, list, item, new, &mut *out);
     answer_word(done)
@@ -129,7 +129,7 @@ pub extern "C" fn ref_copy(cat: u8, field: &[u8], withheld: u8, out: &mut [u8]) 
 // The sheet of a category octet and a field, into the front of the output.
 #[unsafe(no_mangle)]
 pub extern "C" fn ref_sheet(input: &[u8], out: &mut [u8]) -> u64
-    ensures { Hands (withRoom (length out.old) (sheetOf input.now)) out.old result out.new }
+    ensures { Hands (with_room (length out.old) (sheet_of input.now)) out.old result out.new }
 {
     let done = sheet::sheet(input, &mut *out);
     answer_word(done)
@@ -138,7 +138,7 @@ pub extern "C" fn ref_sheet(input: &[u8], out: &mut [u8]) -> u64
 // The field whose sheet a text is, into the front of the output, and its category.
 #[unsafe(no_mangle)]
 pub extern "C" fn ref_rebuild(text: &[u8], out: &mut [u8]) -> u64
-    ensures { HandsRebuilt (rebuildOf text.now (length out.old)) out.old result out.new }
+    ensures { HandsRebuilt (rebuild_of text.now (length out.old)) out.old result out.new }
 {
     let given = rebuild::rebuild(text, &mut *out);
     let answer = given.answer;

@@ -1,9 +1,9 @@
 // What says that something is there: for an item its bit in the indicator, for a subfield a number of the chain.
 // Promises: each is one equation, for every indicator, item, index and number. Stands on codec's definitions and on leaves.
 ghost use Rattle.std.specs.Prelude.{◌≡◌, ◌-◌, ◌^◌, ◌/◌, ◌<◌, eqb, get_or};
-ghost use Rattle.codec.specs.Item.{isOne};
+ghost use Rattle.codec.specs.Item.{is_one};
 ghost use Rattle.codec.specs.Field.{flags};
-ghost use Rattle.codec.specs.Change.{setFlag};
+ghost use Rattle.codec.specs.Change.{set_flag};
 
 // The index of an item; items are counted from 1.
 pub fn index(item: u8) -> usize
@@ -32,7 +32,7 @@ fn bit(i: usize) -> u8
 
 // An indicator with the item of index i, and without it.
 pub fn with_item(items: u8, i: usize) -> u8
-    ensures { result ≡ setFlag items i 1 }
+    ensures { result ≡ set_flag items i 1 }
 {
     if i < 8 {
         if present(items, i) {
@@ -44,7 +44,7 @@ pub fn with_item(items: u8, i: usize) -> u8
 }
 
 pub fn without_item(items: u8, i: usize) -> u8
-    ensures { result ≡ setFlag items i 0 }
+    ensures { result ≡ set_flag items i 0 }
 {
     if i < 8 {
         if present(items, i) {
@@ -56,7 +56,7 @@ pub fn without_item(items: u8, i: usize) -> u8
 
 // Whether a number of a chain says that a subfield is there.
 pub fn is_one(z: i32) -> bool
-    ensures { result ≡ isOne z }
+    ensures { result ≡ is_one z }
 {
     z == 1
 }

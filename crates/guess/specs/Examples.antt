@@ -2,26 +2,26 @@
 -- implementation of the tests, too.
 use Rattle.std.specs.Prelude.{◌≡◌, refl, List, [], ◌∷◌, map, ℕ}
 use Prim.Native.String.{String}
-use Rattle.codec.specs.Signed.{ofSigned, in_signed}
+use Rattle.codec.specs.Signed.{of_signed, in_signed}
 use Rattle.codec.specs.Radix.{total, cut, join}
 use Rattle.codec.specs.Codec.{number}
-use Rattle.codec.specs.Line.{ofNum, inNum, limit, widths, count, unnums, cells, line}
-use Rattle.codec.specs.Item.{slots, slots_of, lines_of, beside, fxOf, chain, isOne, subfields, item}
-use Rattle.codec.specs.Field.{firstFlag, nextFlags, uncons, row, indicator, body}
-use Rattle.codec.specs.Frame.{Outcome, accepted, refused, writeFrame}
+use Rattle.codec.specs.Line.{of_num, in_num, limit, widths, count, unnums, cells, line}
+use Rattle.codec.specs.Item.{slots, slots_of, lines_of, beside, fx_of, chain, is_one, subfields, item}
+use Rattle.codec.specs.Field.{first_flag, next_flags, uncons, row, indicator, body}
+use Rattle.codec.specs.Frame.{Outcome, accepted, refused, write_frame}
 use Rattle.papers.specs.Cat048.{cat048}
 use Rattle.papers.specs.Cat021.{cat021}
 use Rattle.papers.specs.Cat007.{cat007}
 use Rattle.papers.specs.Names.{text, names048, names021, names007, names_of}
-use Rattle.papers.specs.Papers.{paperOf}
-use Rattle.scope.specs.Angle.{rounded, udegOf, left_of}
-use Rattle.scope.specs.Pressure.{senseOf}
-use Rattle.scope.specs.Sheet.{keyLine, digitsOf, decimal, signedDecimal, numberText, numbersText, partsThere, subfieldsThere, linesThere, linesText, chainText, itemText, rowText, itemsText}
-use Rattle.text.specs.Decimals.{valueFrom, value_of, isDigit}
-use Rattle.text.specs.Laws.Decimals.{areDigits}
-use Rattle.words.specs.Numbers.{leads, goesOn, is_number, number_in, is_signed, signedValue, signedIn}
-use Rattle.guess.specs.Lines.{beforeOctet, behindOctet, behindFeeds}
-use Rattle.guess.specs.Guess.{valueIn, fitsPiece, pieceIn, boundedIn, linesFor, behindKeys, numbersIn, takenLines, leftLines, begins, keyText, head_of, open_in, bit, bits, countIn, behindCount, thereIn, keysIn, itemNumbers, itemIn, itemLeft, row_in, namesIn, indicatorOf, indicatorIn, categoryOf, categoryIn, lengthIn, contentsIn, guessOf, sheetWith, firstWrong, given_of, rebuildOf}
+use Rattle.papers.specs.Papers.{paper_of}
+use Rattle.scope.specs.Angle.{rounded, udeg_of, left_of}
+use Rattle.scope.specs.Pressure.{sense_of}
+use Rattle.scope.specs.Sheet.{key_line, digits_of, decimal, signed_decimal, number_text, numbers_text, parts_there, subfields_there, lines_there, lines_text, chain_text, item_text, row_text, items_text}
+use Rattle.text.specs.Decimals.{value_from, value_of, is_digit}
+use Rattle.text.specs.Laws.Decimals.{are_digits}
+use Rattle.words.specs.Numbers.{leads, goes_on, is_number, number_in, is_signed, signed_value, signed_in}
+use Rattle.guess.specs.Lines.{before_octet, behind_octet, behind_feeds}
+use Rattle.guess.specs.Guess.{value_in, fits_piece, piece_in, bounded_in, lines_for, behind_keys, numbers_in, taken_lines, left_lines, begins, key_text, head_of, open_in, bit, bits, count_in, behind_count, there_in, keys_in, item_numbers, item_in, item_left, row_in, names_in, indicator_of, indicator_in, category_of, category_in, length_in, contents_in, guess_of, sheet_with, first_wrong, given_of, rebuild_of}
 
 -- a text, the room for the octets, and the answer
 pub record Example : Type 0 where
@@ -59,6 +59,6 @@ examples =
     ∷ record { read = "cat=48\nlen=5\nitems=MD5\nMD5.GA.GA=-40\nMD5.GA.RES=0\nend=ok\n"; room = 300; answer = refused 18 4 }
     ∷ []
 
-pub read_back : map (λ (e : Example). rebuildOf (text e.read) e.room) examples ≡ map (λ (e : Example). e.answer) examples
-unfolding examples ofSigned in_signed total cut join number ofNum inNum limit widths count unnums cells line slots slots_of lines_of beside fxOf chain isOne subfields item firstFlag nextFlags uncons row indicator body writeFrame cat048 cat021 cat007 names048 names021 names007 names_of paperOf rounded udegOf left_of senseOf keyLine digitsOf decimal signedDecimal numberText numbersText partsThere subfieldsThere linesThere linesText chainText itemText rowText itemsText valueFrom value_of isDigit areDigits leads goesOn is_number number_in is_signed signedValue signedIn beforeOctet behindOctet behindFeeds valueIn fitsPiece pieceIn boundedIn linesFor behindKeys numbersIn takenLines leftLines begins keyText head_of open_in bit bits countIn behindCount thereIn keysIn itemNumbers itemIn itemLeft row_in namesIn indicatorOf indicatorIn categoryOf categoryIn lengthIn contentsIn guessOf sheetWith firstWrong given_of rebuildOf
+pub read_back : map (λ (e : Example). rebuild_of (text e.read) e.room) examples ≡ map (λ (e : Example). e.answer) examples
+unfolding examples of_signed in_signed total cut join number of_num in_num limit widths count unnums cells line slots slots_of lines_of beside fx_of chain is_one subfields item first_flag next_flags uncons row indicator body write_frame cat048 cat021 cat007 names048 names021 names007 names_of paper_of rounded udeg_of left_of sense_of key_line digits_of decimal signed_decimal number_text numbers_text parts_there subfields_there lines_there lines_text chain_text item_text row_text items_text value_from value_of is_digit are_digits leads goes_on is_number number_in is_signed signed_value signed_in before_octet behind_octet behind_feeds value_in fits_piece piece_in bounded_in lines_for behind_keys numbers_in taken_lines left_lines begins key_text head_of open_in bit bits count_in behind_count there_in keys_in item_numbers item_in item_left row_in names_in indicator_of indicator_in category_of category_in length_in contents_in guess_of sheet_with first_wrong given_of rebuild_of
 read_back = refl

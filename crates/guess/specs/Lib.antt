@@ -2,4 +2,3 @@
 pub mod Lines
 pub mod Guess
 pub mod Examples
-pub mod Laws

@@ -4,23 +4,23 @@ use Rattle.codec.specs.Pick.{pick}
 
 -- ---- what stands before the first octet x, and behind it
 
-unfoldable pub beforeOctet : ℕ → List ℕ → List ℕ
-beforeOctet x [] = []
-beforeOctet x (o ∷ t) = pick (eqb o x) [] (o ∷ beforeOctet x t)
+unfoldable pub before_octet : ℕ → List ℕ → List ℕ
+before_octet x [] = []
+before_octet x (o ∷ t) = pick (eqb o x) [] (o ∷ before_octet x t)
 
-unfoldable pub behindOctet : ℕ → List ℕ → List ℕ
-behindOctet x [] = []
-behindOctet x (o ∷ t) = pick (eqb o x) t (behindOctet x t)
+unfoldable pub behind_octet : ℕ → List ℕ → List ℕ
+behind_octet x [] = []
+behind_octet x (o ∷ t) = pick (eqb o x) t (behind_octet x t)
 
 -- ---- the first line of a text, without its line feed, and what follows it
 
-abbrev pub untilFeed : List ℕ → List ℕ
-untilFeed t = beforeOctet 10 t
+abbrev pub until_feed : List ℕ → List ℕ
+until_feed t = before_octet 10 t
 
-abbrev pub behindFeed : List ℕ → List ℕ
-behindFeed t = behindOctet 10 t
+abbrev pub behind_feed : List ℕ → List ℕ
+behind_feed t = behind_octet 10 t
 
 -- what follows so many lines
-unfoldable pub behindFeeds : ℕ → List ℕ → List ℕ
-behindFeeds zero t = t
-behindFeeds (suc n) t = behindFeeds n (behindFeed t)
+unfoldable pub behind_feeds : ℕ → List ℕ → List ℕ
+behind_feeds zero t = t
+behind_feeds (suc n) t = behind_feeds n (behind_feed t)

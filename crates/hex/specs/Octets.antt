@@ -6,42 +6,42 @@ abbrev pub between : ℕ → ℕ → ℕ → Bool
 between low high o = leb low o && leb o high
 
 -- the value of a hex digit: `0` to `9`, `A` to `F`, `a` to `f`; 16 for any other octet
-unfoldable pub hexDigit : ℕ → ℕ
-hexDigit o = pick (between 48 57 o) (o - 48) (pick (between 65 70 o) (o - 65 + 10) (pick (between 97 102 o) (o - 97 + 10) 16))
+unfoldable pub hex_digit : ℕ → ℕ
+hex_digit o = pick (between 48 57 o) (o - 48) (pick (between 65 70 o) (o - 65 + 10) (pick (between 97 102 o) (o - 97 + 10) 16))
 
-unfoldable pub areHex : List ℕ → Bool
-areHex [] = true
-areHex (o ∷ w) = ltb (hexDigit o) 16 && areHex w
+unfoldable pub are_hex : List ℕ → Bool
+are_hex [] = true
+are_hex (o ∷ w) = ltb (hex_digit o) 16 && are_hex w
 
 -- 45 is the `-`
-unfoldable pub isOctets : List ℕ → Bool
-unfolding areHex
-isOctets w =
+unfoldable pub is_octets : List ℕ → Bool
+unfolding are_hex
+is_octets w =
     pick (eqb (length w) 1) (eqb (get_or w 0 0) 45)
-    (leb 1 (length w) && (leb (length w) 8_192 && (eqb (length w % 2) 0 && areHex w)))
+    (leb 1 (length w) && (leb (length w) 8_192 && (eqb (length w % 2) 0 && are_hex w)))
 
 -- the octet of two digits, the high one first
-unfoldable pub octetOf : ℕ → ℕ → ℕ
-unfolding hexDigit
-octetOf a b = hexDigit a % 16 * 16 + hexDigit b % 16
+unfoldable pub octet_of : ℕ → ℕ → ℕ
+unfolding hex_digit
+octet_of a b = hex_digit a % 16 * 16 + hex_digit b % 16
 
 -- the octets of a word; `-` has none
-unfoldable pub octetsOf : List ℕ → List ℕ
-unfolding octetOf
-octetsOf [] = []
-octetsOf (a ∷ []) = []
-octetsOf (a ∷ b ∷ w) = octetOf a b ∷ octetsOf w
+unfoldable pub octets_of : List ℕ → List ℕ
+unfolding octet_of
+octets_of [] = []
+octets_of (a ∷ []) = []
+octets_of (a ∷ b ∷ w) = octet_of a b ∷ octets_of w
 
 -- the octets of a word where octets are wanted; none where it writes none
-unfoldable pub octetsIn : List ℕ → List ℕ
-unfolding isOctets octetsOf
-octetsIn w = pick (isOctets w) (octetsOf w) []
+unfoldable pub octets_in : List ℕ → List ℕ
+unfolding is_octets octets_of
+octets_in w = pick (is_octets w) (octets_of w) []
 
 -- a list is one octet, as two digits; 0 where the word is none
-unfoldable pub isList : List ℕ → Bool
-unfolding areHex
-isList w = eqb (length w) 2 && areHex w
+unfoldable pub is_list : List ℕ → Bool
+unfolding are_hex
+is_list w = eqb (length w) 2 && are_hex w
 
-unfoldable pub listIn : List ℕ → ℕ
-unfolding isList octetOf
-listIn w = pick (isList w) (octetOf (get_or w 0 0) (get_or w 1 0)) 0
+unfoldable pub list_in : List ℕ → ℕ
+unfolding is_list octet_of
+list_in w = pick (is_list w) (octet_of (get_or w 0 0) (get_or w 1 0)) 0

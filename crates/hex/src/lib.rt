@@ -2,14 +2,14 @@
 // Promises: for every word the octets or the list that it writes, and whether it writes such; the octets taken are the octets written. Stands on text.
 ghost use Rattle.std.specs.Prelude.{◌≡◌, ◌<◌, ◌≤◌, length, set};
 ghost use Rattle.std.proofs.lemmas.List.Edits.{sets};
-ghost use Rattle.hex.specs.Octets.{hexDigit, areHex, isOctets, octetOf, octetsOf, octetsIn, isList, listIn};
+ghost use Rattle.hex.specs.Octets.{hex_digit, are_hex, is_octets, octet_of, octets_of, octets_in, is_list, list_in};
 
 // The most octets that a word of hex digits may stand for.
 pub const MOST: usize = 4096;
 
 // The value of a hex digit in either case; 16 for any other octet.
 fn hex_digit(o: u8) -> u8
-    ensures { result ≡ hexDigit o }
+    ensures { result ≡ hex_digit o }
 {
     match o {
         b'0'..=b'9' => o - b'0',
@@ -20,7 +20,7 @@ fn hex_digit(o: u8) -> u8
 }
 
 fn are_hex(word: &[u8]) -> bool
-    ensures { result ≡ areHex word.now }
+    ensures { result ≡ are_hex word.now }
 {
     let mut i: usize = 0;
     while i < word.len() {
@@ -33,7 +33,7 @@ fn are_hex(word: &[u8]) -> bool
 }
 
 pub fn is_octets(word: &[u8]) -> bool
-    ensures { result ≡ isOctets word.now }
+    ensures { result ≡ is_octets word.now }
 {
     if word.len() == 1 {
         return word[0] == b'-';
@@ -52,7 +52,7 @@ pub fn is_octets(word: &[u8]) -> bool
 
 // The octet of two digits, the high one first.
 fn octet(high: u8, low: u8) -> u8
-    ensures { result ≡ octetOf high low }
+    ensures { result ≡ octet_of high low }
 {
     hex_digit(high) % 16 * 16 + hex_digit(low) % 16
 }
@@ -67,7 +67,7 @@ fn put(out: &mut [u8; MOST], at: usize, o: u8)
 // The octets of a word into the front of an array.
 fn lay(word: &[u8], out: &mut [u8; MOST])
     requires { length word.now ≤ 8192 }
-    ensures { out.new ≡ sets out.old 0 (octetsOf word.now) }
+    ensures { out.new ≡ sets out.old 0 (octets_of word.now) }
 {
     let mut i: usize = 0;
     while i < word.len() / 2 {
@@ -78,7 +78,7 @@ fn lay(word: &[u8], out: &mut [u8; MOST])
 
 // The octets that a word writes, into the front of an array, and how many; none where it writes none.
 pub fn octets(word: &[u8], out: &mut [u8; MOST]) -> usize
-    ensures { (result ≡ length (octetsIn word.now)) × (out.new ≡ sets out.old 0 (octetsIn word.now)) }
+    ensures { (result ≡ length (octets_in word.now)) × (out.new ≡ sets out.old 0 (octets_in word.now)) }
 {
     if is_octets(word) {
         lay(word, &mut *out);
@@ -90,7 +90,7 @@ pub fn octets(word: &[u8], out: &mut [u8; MOST]) -> usize
 // ---- a list: one octet as two hex digits
 
 pub fn is_list(word: &[u8]) -> bool
-    ensures { result ≡ isList word.now }
+    ensures { result ≡ is_list word.now }
 {
     if word.len() != 2 {
         return false;
@@ -100,7 +100,7 @@ pub fn is_list(word: &[u8]) -> bool
 
 // The octet of a list; 0 where the word is none.
 pub fn list(word: &[u8]) -> u8
-    ensures { result ≡ listIn word.now }
+    ensures { result ≡ list_in word.now }
 {
     if is_list(word) {
         return octet(word[0], word[1]);

@@ -8,5 +8,5 @@ abbrev pub Within : Input → ℕ → Type 0
 Within (Octets n) room = n ≤ room
 Within Failed room = Unit {0}
 
-pub octets-within : {r : Input} {n room : ℕ} → r ≡ Octets n → Within r room → n ≤ room
-octets-within {room = room} e h = subst (λ x. Within x room) e h
+pub octets_within : {r : Input} {n room : ℕ} → r ≡ Octets n → Within r room → n ≤ room
+octets_within {room = room} e h = subst (λ x. Within x room) e h

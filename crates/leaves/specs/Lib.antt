@@ -2,5 +2,5 @@
 use Rattle.std.specs.Prelude.{◌≡◌, ℕ, ◌%◌, ◌<◌}
 use Rattle.std.proofs.Common.{mod-eq_of_lt}
 
-pub octet-is : (n : ℕ) → n < 256 → n % 256 ≡ n
-octet-is n h = mod-eq_of_lt h
+pub octet_is : (n : ℕ) → n < 256 → n % 256 ≡ n
+octet_is n h = mod-eq_of_lt h

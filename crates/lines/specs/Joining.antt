@@ -19,10 +19,10 @@ unfolding more
 join_of room [] n at = record { at = at; held = n; ended = false }
 join_of room (o ∷ s) n at = pick (eqb o 10) (record { at = at + 1; held = n; ended = true }) (join_of room s (more room n) (at + 1))
 
-unfoldable pub lineAfter : ℕ → List ℕ → ℕ → List ℕ → List ℕ
+unfoldable pub line_after : ℕ → List ℕ → ℕ → List ℕ → List ℕ
 unfolding more put_in
-lineAfter room [] n line = line
-lineAfter room (o ∷ s) n line = pick (eqb o 10) line (lineAfter room s (more room n) (put_in room line n o))
+line_after room [] n line = line
+line_after room (o ∷ s) n line = pick (eqb o 10) line (line_after room s (more room n) (put_in room line n o))
 
 abbrev pub Joins : List ℕ → ℕ → ℕ → List ℕ → Joined → List ℕ → Type 0
-Joins octets from n line r line' = (r ≡ join_of (length line) (drop from octets) n from) × (line' ≡ lineAfter (length line) (drop from octets) n line)
+Joins octets from n line r line' = (r ≡ join_of (length line) (drop from octets) n from) × (line' ≡ line_after (length line) (drop from octets) n line)

@@ -3,8 +3,8 @@
 // Promises: what it hands to be written is the sheet of what it was handed, to the octet; what is read and written nothing can promise.
 // Stands on sheet, and on inputs for what is read.
 ghost use Rattle.std.specs.Prelude.{◌≡◌, ◌≤◌, length, take};
-ghost use Rattle.scope.specs.Sheet.{sheetOf};
-ghost use Rattle.longest.specs.Longest.{longestSheet};
+ghost use Rattle.scope.specs.Sheet.{sheet_of};
+ghost use Rattle.longest.specs.Longest.{longest_sheet};
 
 use inputs::Input;
 use layout::Answer;
@@ -30,8 +30,8 @@ fn main() {
 
 // The sheet into the front of the output; its length. With so much room it is never refused.
 fn listed(input: &[u8], output: &mut [u8]) -> usize
-    requires { longestSheet ≤ length output.old }
-    ensures { (result ≤ length output.new) × (take result output.new ≡ sheetOf input.now) }
+    requires { longest_sheet ≤ length output.old }
+    ensures { (result ≤ length output.new) × (take result output.new ≡ sheet_of input.now) }
 {
     let answer = sheet::sheet(input, &mut *output);
     match answer {

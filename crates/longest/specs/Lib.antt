@@ -1,3 +1,2 @@
 -- How long the lines of a number can be, and how long the longest sheet is.
 pub mod Longest
-pub mod Laws

@@ -4,5 +4,5 @@ use Rattle.std.specs.Prelude.{ℕ}
 -- ---- in numbers
 
 -- the longest of all
-abbrev pub longestSheet : ℕ
-longestSheet = 1_055
+abbrev pub longest_sheet : ℕ
+longest_sheet = 1_055

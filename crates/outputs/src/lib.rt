@@ -1,13 +1,13 @@
 // Octets into the front of an output that is lent (01, 'Writing' and 'The slot desk').
 // Promises: the answer and every octet of the output afterwards; one that is too short is refused by 11, and nothing is written. Stands on the kit's bytes.
-ghost use Rattle.scope.specs.Outputs.{withRoom, Leaves};
+ghost use Rattle.scope.specs.Outputs.{with_room, Leaves};
 ghost use Rattle.std.specs.Prelude.{length};
 
 use layout::Answer;
 
 // Octets into the front of an output, or 11: the last step of every operation that writes a field.
 pub fn deliver(octets: &[u8], out: &mut [u8]) -> Answer
-    ensures { Leaves (withRoom (length out.old) octets.now) out.old result out.new }
+    ensures { Leaves (with_room (length out.old) octets.now) out.old result out.new }
 {
     if octets.len() <= out.len() {
         return Answer::Accepted(bytes::copy(octets, &mut *out));

@@ -4,7 +4,7 @@ use Rattle.std.specs.Prelude.{List, [], ◌∷◌, ◌^◌}
 use Rattle.codec.specs.Item.{Item}
 use Rattle.codec.specs.Printed.{spares, Structure, Entry, compound, fixed}
 use Rattle.codec.specs.Made.{made}
-use Rattle.papers.specs.Notation.{bit, bits, spareBit, ◌LSB◌over◌of◌, ◌minus◌, part, sub}
+use Rattle.papers.specs.Notation.{bit, bits, spare_bit, ◌LSB◌over◌of◌, ◌minus◌, part, sub}
 
 -- ---- 2.3 Barometric Pressure Setting
 
@@ -49,7 +49,7 @@ STA =
     (bit 8 "TSI#EP" ∷ bits 7 6 "TSI#VAL" ∷ bit 5 "MUO#EP" ∷ bit 4 "MUO#VAL" ∷ bit 3 "RWC#EP" ∷ bit 2 "RWC#VAL" ∷ [])
     ∷ part 1 (bit 8 "DAA#EP" ∷ bits 7 6 "DAA#VAL" ∷ bit 5 "DF17CA#EP" ∷ bits 4 2 "DF17CA#VAL" ∷ [])
     ∷ part 1 (bit 8 "SVH#EP" ∷ bits 7 6 "SVH#VAL" ∷ bit 5 "CATC#EP" ∷ bits 4 2 "CATC#VAL" ∷ [])
-    ∷ part 1 (bit 8 "TAO#EP" ∷ bits 7 3 "TAO#VAL" ∷ spareBit 2 ∷ [])
+    ∷ part 1 (bit 8 "TAO#EP" ∷ bits 7 3 "TAO#VAL" ∷ spare_bit 2 ∷ [])
     ∷ [])
     []
 
@@ -72,7 +72,7 @@ PNO = sub "PNO" 4 (spares 32 31 ∷ bits 30 17 "PIN" ∷ spares 16 12 ∷ bits 1
 
 -- Subfield #3: Extended Mode 1 Code in Octal Representation
 abbrev EM1 : Structure
-EM1 = sub "EM1" 2 (bit 16 "V" ∷ spareBit 15 ∷ bit 14 "L" ∷ spareBit 13 ∷ bits 12 1 "EM1" ∷ [])
+EM1 = sub "EM1" 2 (bit 16 "V" ∷ spare_bit 15 ∷ bit 14 "L" ∷ spare_bit 13 ∷ bits 12 1 "EM1" ∷ [])
 
 -- Subfield #4: X Pulse Presence
 abbrev XP : Structure
@@ -84,12 +84,12 @@ FOM = sub "FOM" 1 (spares 8 6 ∷ bits 5 1 "FOM" ∷ [])
 
 -- Subfield #6: Mode 2 Code in Octal Representation. No short name is printed for the code itself
 abbrev M2 : Structure
-M2 = sub "M2" 2 (bit 16 "V" ∷ spareBit 15 ∷ bit 14 "L" ∷ spareBit 13 ∷ bits 12 1 "M2" ∷ [])
+M2 = sub "M2" 2 (bit 16 "V" ∷ spare_bit 15 ∷ bit 14 "L" ∷ spare_bit 13 ∷ bits 12 1 "M2" ∷ [])
 
 abbrev pub MES : Entry
 MES =
     compound "MES"
-    (part 1 (bit 8 "SUM" ∷ bit 7 "PNO" ∷ bit 6 "EM1" ∷ bit 5 "XP" ∷ bit 4 "FOM" ∷ bit 3 "M2" ∷ spareBit 2 ∷ []))
+    (part 1 (bit 8 "SUM" ∷ bit 7 "PNO" ∷ bit 6 "EM1" ∷ bit 5 "XP" ∷ bit 4 "FOM" ∷ bit 3 "M2" ∷ spare_bit 2 ∷ []))
     []
     (SUM ∷ PNO ∷ EM1 ∷ XP ∷ FOM ∷ M2 ∷ [])
 

@@ -4,7 +4,7 @@ use Rattle.std.specs.Prelude.{List, [], ◌∷◌, ◌^◌, pos}
 use Rattle.codec.specs.Item.{Item}
 use Rattle.codec.specs.Printed.{spares, Structure, Entry, compound, fixed}
 use Rattle.codec.specs.Made.{made}
-use Rattle.papers.specs.Notation.{bit, bits, signedBits, limitedBits, neg, spareBit, ◌LSB◌over◌of◌, part, sub, above}
+use Rattle.papers.specs.Notation.{bit, bits, signed_bits, limited_bits, neg, spare_bit, ◌LSB◌over◌of◌, part, sub, above}
 
 -- ---- 2.3 MD5 – Mode 5 Reports
 
@@ -12,7 +12,7 @@ use Rattle.papers.specs.Notation.{bit, bits, signedBits, limitedBits, neg, spare
 abbrev SUM : Structure
 SUM =
     sub "SUM" 1
-    (bit 8 "M5" ∷ bit 7 "ID" ∷ bit 6 "DA" ∷ bit 5 "M1" ∷ bit 4 "M2" ∷ bit 3 "M3" ∷ bit 2 "MC" ∷ spareBit 1 ∷ [])
+    (bit 8 "M5" ∷ bit 7 "ID" ∷ bit 6 "DA" ∷ bit 5 "M1" ∷ bit 4 "M2" ∷ bit 3 "M3" ∷ bit 2 "MC" ∷ spare_bit 1 ∷ [])
 
 -- Subfield #2: Mode 5 PIN / National Origin / Mission Code
 abbrev mission : Structure
@@ -24,22 +24,22 @@ mission =
 abbrev POS : Structure
 POS =
     sub "POS" 6
-    (limitedBits 48 25 "LAT" (neg 4_194_304) (pos 4_194_304) LSB 180 over 2 ^ 23 of "degrees"
-    ∷ signedBits 24 1 "LON" LSB 180 over 2 ^ 23 of "degrees"
+    (limited_bits 48 25 "LAT" (neg 4_194_304) (pos 4_194_304) LSB 180 over 2 ^ 23 of "degrees"
+    ∷ signed_bits 24 1 "LON" LSB 180 over 2 ^ 23 of "degrees"
     ∷ [])
 
 -- Subfield #4: Mode 5 GNSS-derived Altitude. "LSB of 25 ft irrespective of the setting of bit 15"; from -1000 ft, and
 -- 14 bits end at 8,191
 abbrev GA : Structure
-GA = sub "GA" 2 (spareBit 16 ∷ bit 15 "RES" ∷ limitedBits 14 1 "GA" (neg 40) (pos 8_191) LSB 25 over 1 of "ft" ∷ [])
+GA = sub "GA" 2 (spare_bit 16 ∷ bit 15 "RES" ∷ limited_bits 14 1 "GA" (neg 40) (pos 8_191) LSB 25 over 1 of "ft" ∷ [])
 
 -- Subfield #5: Extended Mode 1 Code in Octal Representation
 abbrev EM1 : Structure
-EM1 = sub "EM1" 2 (bit 16 "V" ∷ bit 15 "G" ∷ bit 14 "L" ∷ spareBit 13 ∷ bits 12 1 "EM1" ∷ [])
+EM1 = sub "EM1" 2 (bit 16 "V" ∷ bit 15 "G" ∷ bit 14 "L" ∷ spare_bit 13 ∷ bits 12 1 "EM1" ∷ [])
 
 -- Subfield #6: Time Offset for POS and GA
 abbrev TOS : Structure
-TOS = sub "TOS" 1 (signedBits 8 1 "TOS" LSB 1 over 128 of "s" ∷ [])
+TOS = sub "TOS" 1 (signed_bits 8 1 "TOS" LSB 1 over 128 of "s" ∷ [])
 
 -- Subfield #7: X Pulse Presence
 abbrev XP : Structure

@@ -6,4 +6,3 @@ pub mod Cat007
 pub mod Papers
 pub mod Names
 pub mod Specimens
-pub mod Laws

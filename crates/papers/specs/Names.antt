@@ -5,7 +5,7 @@ use Rattle.std.specs.Prelude.{List, [], ◌∷◌, ◌++◌, Bool, ℕ, eqb, leb
 use Prim.Native.String.{String}
 use Rattle.codec.specs.Pick.{pick}
 pub use Rattle.codec.specs.Printed.{text}
-use Rattle.codec.specs.Printed.{Structure, Entry, compound, fixed, sameText, runNames, numberNames}
+use Rattle.codec.specs.Printed.{Structure, Entry, compound, fixed, same_text, run_names, number_names}
 use Rattle.papers.specs.Cat048.{printed048}
 use Rattle.papers.specs.Cat021.{printed021}
 use Rattle.papers.specs.Cat007.{printed007}
@@ -24,7 +24,7 @@ pub record Named : Type 0 where
   pub keys : List (List Key)
 
 abbrev same : String → String → Bool
-same a b = sameText (text a) (text b)
+same a b = same_text (text a) (text b)
 
 -- "After each latitude and each longitude comes a line with `.udeg` .. After BPS comes `BPS.tenths`"
 abbrev pub key_of : String → List ℕ → Key
@@ -46,50 +46,50 @@ abbrev keys_of : ℕ → List ℕ → List String → List Key
 keys_of many above ns = pick (leb many 1) (only above ns) (each above ns)
 
 -- an item without subfields; the primary subfield of one with subfields; its subfields
-abbrev partKeys : ℕ → List ℕ → List Structure → List (List Key)
-partKeys many item [] = []
-partKeys many item (p ∷ ps) = keys_of many item (runNames p.runs) ∷ partKeys many item ps
+abbrev part_keys : ℕ → List ℕ → List Structure → List (List Key)
+part_keys many item [] = []
+part_keys many item (p ∷ ps) = keys_of many item (run_names p.runs) ∷ part_keys many item ps
 
-abbrev flagKeys : List Structure → List (List Key)
-flagKeys [] = []
-flagKeys (p ∷ ps) = replicate (length (runNames p.runs)) hidden ∷ flagKeys ps
+abbrev flag_keys : List Structure → List (List Key)
+flag_keys [] = []
+flag_keys (p ∷ ps) = replicate (length (run_names p.runs)) hidden ∷ flag_keys ps
 
-abbrev subKeys : List ℕ → List Structure → List (List Key)
-subKeys item [] = []
-subKeys item (s ∷ ss) =
-    keys_of (length (runNames s.runs)) (item ++ (text "." ++ text s.name)) (runNames s.runs) ∷ subKeys item ss
+abbrev sub_keys : List ℕ → List Structure → List (List Key)
+sub_keys item [] = []
+sub_keys item (s ∷ ss) =
+    keys_of (length (run_names s.runs)) (item ++ (text "." ++ text s.name)) (run_names s.runs) ∷ sub_keys item ss
 
 abbrev named : Entry → Named
 named (compound name p qs []) = record {
   name = text name;
-  keys = partKeys (length (numberNames (p ∷ qs))) (text name) (p ∷ qs);
+  keys = part_keys (length (number_names (p ∷ qs))) (text name) (p ∷ qs);
 }
 named (compound name p qs (s ∷ ss)) = record {
   name = text name;
-  keys = flagKeys (p ∷ qs) ++ subKeys (text name) (s ∷ ss);
+  keys = flag_keys (p ∷ qs) ++ sub_keys (text name) (s ∷ ss);
 }
 named (fixed s) = record {
   name = text s.name;
-  keys = partKeys (length (runNames s.runs)) (text s.name) (s ∷ []);
+  keys = part_keys (length (run_names s.runs)) (text s.name) (s ∷ []);
 }
 
-abbrev allNamed : List Entry → List Named
-allNamed [] = []
-allNamed (e ∷ es) = named e ∷ allNamed es
+abbrev all_named : List Entry → List Named
+all_named [] = []
+all_named (e ∷ es) = named e ∷ all_named es
 
 -- ---- the names of a category's items, in the order of their bits
 
 unfoldable pub names048 : List Named
 unfolding printed048
-names048 = allNamed printed048
+names048 = all_named printed048
 
 unfoldable pub names021 : List Named
 unfolding printed021
-names021 = allNamed printed021
+names021 = all_named printed021
 
 unfoldable pub names007 : List Named
 unfolding printed007
-names007 = allNamed printed007
+names007 = all_named printed007
 
 unfoldable pub names_of : ℕ → List Named
 names_of cat = pick (eqb cat 48) names048 (pick (eqb cat 21) names021 (pick (eqb cat 7) names007 []))

@@ -15,17 +15,17 @@ bits hi lo name = number plain hi lo (record { name = name; counts = code })
 abbrev pub bit : ℕ → String → Run
 bit b name = bits b b name
 
-abbrev pub signedBits : ℕ → ℕ → String → Run
-signedBits hi lo name = number signed hi lo (record { name = name; counts = code })
+abbrev pub signed_bits : ℕ → ℕ → String → Run
+signed_bits hi lo name = number signed hi lo (record { name = name; counts = code })
 
-abbrev pub limitedBits : ℕ → ℕ → String → ℤ → ℤ → Run
-limitedBits hi lo name least most = number (limited least most) hi lo (record { name = name; counts = code })
+abbrev pub limited_bits : ℕ → ℕ → String → ℤ → ℤ → Run
+limited_bits hi lo name least most = number (limited least most) hi lo (record { name = name; counts = code })
 
 abbrev pub neg : ℕ → ℤ
 neg n = neg_ℤ (pos n)
 
-abbrev pub spareBit : ℕ → Run
-spareBit b = spares b b
+abbrev pub spare_bit : ℕ → Run
+spare_bit b = spares b b
 
 -- "LSB = 1/256 NM": bits 16 1 "RW" LSB 1 over 256 of "NM"
 abbrev counting : Measure → Run → Run

@@ -4,14 +4,14 @@ use Rattle.std.specs.Prelude.{◌≡◌, refl, List, [], ◌∷◌, map, ℕ, po
 use Rattle.codec.specs.Signed.{to_signed}
 use Rattle.codec.specs.Radix.{total, cut, join}
 use Rattle.codec.specs.Codec.{number}
-use Rattle.codec.specs.Line.{Held, toNum, limit, widths, count, clear, nums, inLimits, cells, line}
-use Rattle.codec.specs.Item.{slots_of, slots, beside, chain, isOne, subfields, item}
-use Rattle.codec.specs.Field.{firstFlag, nextFlags, row, allZero, indicator, body}
-use Rattle.codec.specs.Frame.{accepted, settle, readFrame}
+use Rattle.codec.specs.Line.{Held, to_num, limit, widths, count, clear, nums, in_limits, cells, line}
+use Rattle.codec.specs.Item.{slots_of, slots, beside, chain, is_one, subfields, item}
+use Rattle.codec.specs.Field.{first_flag, next_flags, row, all_zero, indicator, body}
+use Rattle.codec.specs.Frame.{accepted, settle, read_frame}
 use Rattle.papers.specs.Cat048.{cat048}
 use Rattle.papers.specs.Cat021.{cat021}
 use Rattle.papers.specs.Cat007.{cat007}
-use Rattle.papers.specs.Papers.{paperOf}
+use Rattle.papers.specs.Papers.{paper_of}
 
 pub record Specimen : Type 0 where
   pub cat : ℕ
@@ -62,6 +62,6 @@ specimens =
     }
     ∷ []
 
-pub specimens-read : map (λ (p : Specimen). readFrame (body (paperOf p.cat)) p.octets) specimens ≡ map (λ (p : Specimen). accepted (p.items, p.held)) specimens
-unfolding specimens paperOf cat048 cat021 cat007 settle readFrame body indicator allZero row firstFlag nextFlags slots item chain beside subfields isOne slots_of line cells number toNum to_signed limit widths count clear nums inLimits total cut join
-specimens-read = refl
+pub specimens_read : map (λ (p : Specimen). read_frame (body (paper_of p.cat)) p.octets) specimens ≡ map (λ (p : Specimen). accepted (p.items, p.held)) specimens
+unfolding specimens paper_of cat048 cat021 cat007 settle read_frame body indicator all_zero row first_flag next_flags slots item chain beside subfields is_one slots_of line cells number to_num to_signed limit widths count clear nums in_limits total cut join
+specimens_read = refl

@@ -2,7 +2,7 @@
 // Promises: the lines are those that 01 and 02 define, for any two numbers. Stands on angle, on text, and on scope's definition of the sheet.
 ghost use Rattle.std.specs.Prelude.{◌++◌};
 ghost use Rattle.papers.specs.Names.{angle, text};
-ghost use Rattle.scope.specs.Sheet.{keyLine, signedDecimal, numberText};
+ghost use Rattle.scope.specs.Sheet.{key_line, signed_decimal, number_text};
 ghost use Rattle.text.specs.Typing.{Types};
 
 // Latitude and longitude, numbers of 24 bits.
@@ -14,7 +14,7 @@ pub struct Position {
 
 // A line whose key is a name, a further name and a last one.
 fn line(name: &[u8], more: &[u8], last: &[u8], z: i64, at: usize, buf: &mut [u8; 4096]) -> usize
-    ensures { Types (keyLine ((name.now ++ more.now) ++ last.now) (signedDecimal z)) buf.old at buf.new result }
+    ensures { Types (key_line ((name.now ++ more.now) ++ last.now) (signed_decimal z)) buf.old at buf.new result }
 {
     let middle = text::word(name, at, &mut *buf);
     let behind = text::word(more, middle, &mut *buf);
@@ -31,7 +31,7 @@ fn coordinate(
     at: usize,
     buf: &mut [u8; 4096],
 ) -> usize
-    ensures { Types (keyLine (name.now ++ more.now) (signedDecimal n) ++ (keyLine ((name.now ++ more.now) ++ text ".udeg") (signedDecimal udeg) ++ keyLine ((name.now ++ more.now) ++ text ".left") (signedDecimal left))) buf.old at buf.new result }
+    ensures { Types (key_line (name.now ++ more.now) (signed_decimal n) ++ (key_line ((name.now ++ more.now) ++ text ".udeg") (signed_decimal udeg) ++ key_line ((name.now ++ more.now) ++ text ".left") (signed_decimal left))) buf.old at buf.new result }
 {
     let udeg_at = line(name, more, b"", n as i64, at, &mut *buf);
     let left_at = line(name, more, b".udeg", udeg, udeg_at, &mut *buf);
@@ -40,7 +40,7 @@ fn coordinate(
 
 // The three lines of the latitude, then those of the longitude, under the item's and the subfield's name.
 pub fn lines(name: &[u8], p: Position, at: usize, buf: &mut [u8; 4096]) -> usize
-    ensures { Types (numberText (angle (name.now ++ text ".LAT")) p.lat ++ numberText (angle (name.now ++ text ".LON")) p.lon) buf.old at buf.new result }
+    ensures { Types (number_text (angle (name.now ++ text ".LAT")) p.lat ++ number_text (angle (name.now ++ text ".LON")) p.lon) buf.old at buf.new result }
 {
     let lat = angle::exact(p.lat);
     let next = coordinate(name, b".LAT", p.lat, lat.udeg, lat.left, at, &mut *buf);

@@ -1,12 +1,12 @@
 // The pressure that a barometric number stands for (01, 'The sheet'; 02, Ask 1), as lines behind the number's own.
 // Promises: the lines are those that 01 and 02 define, for every number. Stands on scope's definition of them and on text.
-ghost use Rattle.scope.specs.Pressure.{senseOf};
-ghost use Rattle.scope.specs.Sheet.{keyLine, pressureText};
+ghost use Rattle.scope.specs.Pressure.{sense_of};
+ghost use Rattle.scope.specs.Sheet.{key_line, pressure_text};
 ghost use Rattle.text.specs.Typing.{Types};
 
 // The line that says which settings the number stands for: at an end all beyond it too (document 003, 2.3).
 fn sense(key: &[u8], n: i64, at: usize, buf: &mut [u8; 4096]) -> usize
-    ensures { Types (keyLine key.now (senseOf n)) buf.old at buf.new result }
+    ensures { Types (key_line key.now (sense_of n)) buf.old at buf.new result }
 {
     match n {
         0 => text::word_pair(key, b"atmost", at, &mut *buf),
@@ -17,7 +17,7 @@ fn sense(key: &[u8], n: i64, at: usize, buf: &mut [u8; 4096]) -> usize
 
 // Tenths of hPa, 8,000 and the number, and which settings these are, under the number's name.
 pub fn lines(name: &[u8], n: i32, at: usize, buf: &mut [u8; 4096]) -> usize
-    ensures { Types (pressureText name.now n) buf.old at buf.new result }
+    ensures { Types (pressure_text name.now n) buf.old at buf.new result }
 {
     let number = n as i64;
     let tenths = 8_000 + number;

@@ -11,7 +11,7 @@ use Rattle.codec.specs.Change.{remove, put}
 use Rattle.codec.specs.Frame.{Outcome}
 use Rattle.layout.specs.declared.Answer.{Answer}
 use Rattle.scope.specs.Outputs.{Leaves}
-use Rattle.views.specs.Parts.{part_at, chosenAt}
+use Rattle.views.specs.Parts.{part_at, chosen_at}
 use Rattle.reader.proofs.read.Statement as read
 use Rattle.reader.proofs.read.Met as read-met
 use Rattle.reader.proofs.read.Reads as read-claims
@@ -27,13 +27,13 @@ use Rattle.desk.proofs.replace.Reads as replace-claims
 use Rattle.visitors.proofs.copy.Statement as copy
 use Rattle.visitors.proofs.copy.Met as copy_met
 use Rattle.visitors.proofs.copy.Reads as copy-claims
-use Rattle.views.proofs.view_answer.Statement as view-answer
+use Rattle.views.proofs.view_answer.Statement as view_answer
 use Rattle.views.proofs.view_answer.Met as view-answer-met
 use Rattle.views.proofs.view_answer.Reads as view-answer-claims
 use Rattle.views.proofs.view.Statement as view
 use Rattle.views.proofs.view.Met as view-met
 use Rattle.views.proofs.view.Reads as view-claims
-use Rattle.views.proofs.choose_answer.Statement as choose-answer
+use Rattle.views.proofs.choose_answer.Statement as choose_answer
 use Rattle.views.proofs.choose_answer.Met as choose-answer-met
 use Rattle.views.proofs.choose_answer.Reads as choose-answer-claims
 use Rattle.views.proofs.choose.Statement as choose
@@ -78,16 +78,16 @@ pub record Computes (p : Program) : Type 2 where
       (λ args a ends. Handed a ends.1.1.1.0.now
       (p.copy args.0 args.1.0.now args.1.1.0 args.1.1.1.0.now))
   -- the part is the very part of the lent field, in memory too
-  pub view-answer : Runs view-answer.statement view-answer-claims.Pre view-answer-claims.Post
+  pub view_answer : Runs view_answer.statement view-answer-claims.Pre view-answer-claims.Post
       (λ args v ends. v ≡ p.view args.0 args.1.0.now args.1.1.0)
   pub view : Runs view.statement view-claims.Pre view-claims.Post
       (λ args x ends. (x.now ≡ p.part args.0 args.1.0.now args.1.1.0)
       × (x.ref_ptr ≡ part_at args.1.0.ref_ptr (p.view args.0 args.1.0.now args.1.1.0)))
-  pub choose-answer : Runs choose-answer.statement choose-answer-claims.Pre choose-answer-claims.Post
+  pub choose_answer : Runs choose_answer.statement choose-answer-claims.Pre choose-answer-claims.Post
       (λ args c ends. c ≡ p.choose args.0 args.1.0.now args.1.1.0.now args.1.1.1.0)
   pub choose : Runs choose.statement choose-claims.Pre choose-claims.Post
       (λ args x ends. (x.now ≡ p.chosen args.0 args.1.0.now args.1.1.0.now args.1.1.1.0)
-      × (x.ref_ptr ≡ chosenAt args.1.0.ref_ptr args.1.1.0.ref_ptr
+      × (x.ref_ptr ≡ chosen_at args.1.0.ref_ptr args.1.1.0.ref_ptr
       (p.choose args.0 args.1.0.now args.1.1.0.now args.1.1.1.0)))
   pub sheet : Runs sheet.statement sheet-claims.Pre sheet-claims.Post
       (λ args a ends. Handed a ends.1.0.now (p.sheet args.0.now args.1.0.now))
@@ -107,9 +107,9 @@ computed = record {
   removes = record { runs = remove-met.met; asks = λ lives args. tt; gives = λ lives args a ends. handing };
   replaces = record { runs = replace-met.met; asks = λ lives args. tt; gives = λ lives args a ends. handing };
   copies = record { runs = copy_met.met; asks = λ lives args. tt; gives = λ lives args a ends. handing };
-  view-answer = record { runs = view-answer-met.met; asks = λ lives args. tt; gives = λ lives args v ends p. p };
+  view_answer = record { runs = view-answer-met.met; asks = λ lives args. tt; gives = λ lives args v ends p. p };
   view = record { runs = view-met.met; asks = λ lives args. tt; gives = λ lives args x ends p. p };
-  choose-answer = record { runs = choose-answer-met.met; asks = λ lives args. tt; gives = λ lives args c ends p. p };
+  choose_answer = record { runs = choose-answer-met.met; asks = λ lives args. tt; gives = λ lives args c ends p. p };
   choose = record { runs = choose-met.met; asks = λ lives args. tt; gives = λ lives args x ends p. p };
   sheet = record { runs = sheet-met.met; asks = λ lives args. tt; gives = λ lives args a ends. handing };
   rebuild = record { runs = rebuild-met.met; asks = λ lives args. tt; gives = λ lives args r ends p. (p.category, handing p.leaves) };

@@ -9,7 +9,7 @@ use Rattle.scope.specs.Visitors.{Copied}
 use Rattle.demands.specs.Terms.{IsField}
 use Rattle.demands.specs.Visitors.{AlikeOff}
 use Rattle.demands.specs.Defined.{program}
-use Rattle.demands.specs.Kept.Visitors.{visitors}
+use Rattle.demands.proofs.Kept.Visitors.{visitors}
 use Rattle.visitors.proofs.copy.Reads as copy
 
 -- of a contract over a category, a field, a list and an output: two runs on fields that are alike off the list, with one
@@ -24,11 +24,11 @@ TellsNothing {L} {A} {E} Post cat field list out left =
 told : {cat : ℕ} {s t : List ℕ} {list : ℕ} {out : List ℕ} {a b : Answer} {m n : List ℕ} → Copied cat s list out a m → Copied cat t list out b n
     → list < 256 → (f g : Record) → Octets s → IsField cat s f → Octets t → IsField cat t g → AlikeOff program cat list s f t g → (a ≡ b) × (m ≡ n)
 told {cat} {s} {t} {list} {out} p q lt f g os hs ot ht al =
-    let e = visitors.tells-nothing cat s f t g os hs ot ht list lt al out in
+    let e = visitors.tells_nothing cat s f t g os hs ot ht list lt al out in
     (p.answer ∙ ap (λ r. r.0) e ∙ sym q.answer, p.output ∙ ap (λ r. r.1) e ∙ sym q.output)
 
-pub tells-nothing : TellsNothing copy.Post (λ x. x.0) (λ x. x.1.0.now) (λ x. x.1.1.0) (λ x. x.1.1.1.0.now) (λ e. e.1.1.1.0.now)
-tells-nothing l l' x y a b e u p q ec el eo =
+pub tells_nothing : TellsNothing copy.Post (λ x. x.0) (λ x. x.1.0.now) (λ x. x.1.1.0) (λ x. x.1.1.1.0.now) (λ e. e.1.1.1.0.now)
+tells_nothing l l' x y a b e u p q ec el eo =
     told p (subst (λ c. Copied c y.1.0.now x.1.1.0 x.1.1.1.0.now b u.1.1.1.0.now) (sym ec)
     (subst (λ i. Copied y.0 y.1.0.now i x.1.1.1.0.now b u.1.1.1.0.now) (sym el)
     (subst (λ o. Copied y.0 y.1.0.now y.1.1.0 o b u.1.1.1.0.now) (sym eo) q)))

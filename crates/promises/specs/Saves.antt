@@ -4,7 +4,7 @@ use Rattle.std.specs.Prelude.{List, ℕ}
 use Rattle.codec.specs.Change.{Change, remove, put}
 use Rattle.layout.specs.declared.Answer.{Answer}
 use Rattle.demands.specs.Members.{Members}
-use Rattle.demands.specs.Kept.Members.{Keeps, promised}
+use Rattle.demands.proofs.Kept.Members.{Keeps, promised}
 use Rattle.desk.proofs.remove.Reads as removal
 use Rattle.desk.proofs.replace.Reads as replace
 

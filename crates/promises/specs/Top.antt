@@ -3,25 +3,25 @@
 -- exact angle and of reading the sheet back.
 use Rattle.demands.specs.Demands.{Program, Demands}
 use Rattle.demands.specs.Visitors.{Visitors}
-use Rattle.demands.specs.Members.{deskOf, Members}
+use Rattle.demands.specs.Members.{desk_of, Members}
 use Rattle.demands.specs.Pressure.{Pressure}
 use Rattle.demands.specs.Leftovers.{Leftovers}
 use Rattle.demands.specs.Rebuilding.{Rebuilding}
 use Rattle.demands.specs.Defined.{program}
 use Rattle.promises.specs.Code.{Computes, computed}
-use Rattle.demands.specs.Kept.{kept}
-use Rattle.demands.specs.Kept.Visitors.{visitors}
-use Rattle.demands.specs.Kept.Members.{members}
-use Rattle.demands.specs.Kept.Pressure.{pressure}
-use Rattle.demands.specs.Kept.Leftovers.{leftovers}
-use Rattle.demands.specs.Kept.Rebuilding.{rebuilding}
+use Rattle.demands.proofs.Kept.{kept}
+use Rattle.demands.proofs.Kept.Visitors.{visitors}
+use Rattle.demands.proofs.Kept.Members.{members}
+use Rattle.demands.proofs.Kept.Pressure.{pressure}
+use Rattle.demands.proofs.Kept.Leftovers.{leftovers}
+use Rattle.demands.proofs.Kept.Rebuilding.{rebuilding}
 
 pub record Top : Type 2 where
   pub does : Program
   pub computes : Computes does
   pub meets : Demands does
   pub visitors : Visitors does
-  pub members : Members (deskOf does)
+  pub members : Members (desk_of does)
   pub pressure : Pressure does
   pub leftovers : Leftovers does
   pub rebuilding : Rebuilding does

@@ -4,8 +4,8 @@ use Rattle.codec.specs.Pick.{pick}
 use Rattle.papers.specs.Names.{text}
 use Rattle.papers.specs.Papers.{SLOTS}
 use Rattle.words.specs.Numbers.{is_number, is_signed}
-use Rattle.hex.specs.Octets.{isOctets, isList}
-use Rattle.protocol.specs.Line.{words_of, nth, same, placesFrom}
+use Rattle.hex.specs.Octets.{is_octets, is_list}
+use Rattle.protocol.specs.Line.{words_of, nth, same, places_from}
 use Rattle.protocol.specs.declared.Judged.{Judged}
 use Rattle.protocol.specs.declared.Judged.TheVariants.{Asks, Wrong}
 use Rattle.protocol.specs.declared.Parsed.{Parsed}
@@ -14,8 +14,8 @@ use Rattle.protocol.specs.declared.Parsed.{Parsed}
 unfoldable pub fits : ℕ → List ℕ → Bool
 fits kind w =
     pick (eqb kind 67) (is_number 255 w)  -- C  CAT
-    (pick (eqb kind 79) (isOctets w)  -- O  octets: FIELD, NEW, TEXT, ..
-    (pick (eqb kind 76) (isList w)  -- L  LIST, WITHHELD: two hex digits
+    (pick (eqb kind 79) (is_octets w)  -- O  octets: FIELD, NEW, TEXT, ..
+    (pick (eqb kind 76) (is_list w)  -- L  LIST, WITHHELD: two hex digits
     (pick (eqb kind 73) (is_number 255 w)  -- I  ITEM
     (pick (eqb kind 82) (is_number 300 w)  -- R  ROOM
     (pick (eqb kind 66) (is_number 255 w)  -- B  ITEMS, the parts, COUNT
@@ -29,13 +29,13 @@ pub record Form : Type 0 where
   pub kinds : List ℕ
 
 -- a record is a run of words: CAT, ITEMS, 8 parts, the numbers
-abbrev pub recordKinds : List ℕ
-recordKinds = text "CB" ++ (replicate 8 66 ++ replicate SLOTS 83)
+abbrev pub record_kinds : List ℕ
+record_kinds = text "CB" ++ (replicate 8 66 ++ replicate SLOTS 83)
 
 unfoldable pub forms : List Form
 forms =
     record { name = text "read"; kinds = text "CO" }  -- 0
-    ∷ record { name = text "write"; kinds = text "R" ++ recordKinds }  -- 1
+    ∷ record { name = text "write"; kinds = text "R" ++ record_kinds }  -- 1
     ∷ record { name = text "sheet"; kinds = text "CO" }  -- 2
     ∷ record { name = text "view"; kinds = text "COI" }  -- 3
     ∷ record { name = text "choose"; kinds = text "COOI" }  -- 4
@@ -46,27 +46,27 @@ forms =
     ∷ []
 
 -- the number of the first word that is wrong: not of its kind, missing, or one too many; n is the number of the first of them, 0 says that none is
-unfoldable pub firstWrong : List ℕ → List (List ℕ) → ℕ → ℕ
+unfoldable pub first_wrong : List ℕ → List (List ℕ) → ℕ → ℕ
 unfolding fits
-firstWrong [] [] n = 0
-firstWrong [] (w ∷ ws) n = n
-firstWrong (k ∷ ks) [] n = n
-firstWrong (k ∷ ks) (w ∷ ws) n = pick (fits k w) (firstWrong ks ws (n + 1)) n
+first_wrong [] [] n = 0
+first_wrong [] (w ∷ ws) n = n
+first_wrong (k ∷ ks) [] n = n
+first_wrong (k ∷ ks) (w ∷ ws) n = pick (fits k w) (first_wrong ks ws (n + 1)) n
 
 -- a request by its number, from 0, unless a word is wrong
-unfoldable pub judgedAs : ℕ → ℕ → Judged
-judgedAs q wrong = pick (eqb wrong 0) (Asks q) (Wrong wrong)
+unfoldable pub judged_as : ℕ → ℕ → Judged
+judged_as q wrong = pick (eqb wrong 0) (Asks q) (Wrong wrong)
 
 -- the words of a line by the forms; q is the number of the first of these
-unfoldable pub judgedBy : ℕ → List Form → List (List ℕ) → Judged
-unfolding judgedAs firstWrong
-judgedBy q [] ws = Wrong 1
-judgedBy q (f ∷ fs) ws = pick (same (nth ws 0) f.name) (judgedAs q (firstWrong f.kinds (drop 1 ws) 2)) (judgedBy (q + 1) fs ws)
+unfoldable pub judged_by : ℕ → List Form → List (List ℕ) → Judged
+unfolding judged_as first_wrong
+judged_by q [] ws = Wrong 1
+judged_by q (f ∷ fs) ws = pick (same (nth ws 0) f.name) (judged_as q (first_wrong f.kinds (drop 1 ws) 2)) (judged_by (q + 1) fs ws)
 
 -- a line: which request it is, or the number of the first word that is wrong, and where its first ten words start. One of more than 16,384 octets is not looked at
-unfoldable pub parseOf : List ℕ → Parsed
-unfolding forms judgedBy placesFrom
-parseOf line =
+unfoldable pub parse_of : List ℕ → Parsed
+unfolding forms judged_by places_from
+parse_of line =
     pick (ltb 16_384 (length line))
     (record { judged = Wrong 0; starts = replicate 10 0 })
-    (record { judged = judgedBy 0 forms (words_of line); starts = placesFrom line 0 10 })
+    (record { judged = judged_by 0 forms (words_of line); starts = places_from line 0 10 })

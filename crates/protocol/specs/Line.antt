@@ -1,7 +1,7 @@
 -- The words of a line: what stands between its spaces. A line without a space, also an empty one, is one word; an empty word, as between two spaces, is a word.
 use Rattle.std.specs.Prelude.{Bool, true, false, ◌&&◌, List, [], ◌∷◌, ℕ, zero, suc, ◌+◌, leb, eqb, length, get_or, drop}
 use Rattle.codec.specs.Pick.{pick}
-use Rattle.words.specs.Lines.{wordLength}
+use Rattle.words.specs.Lines.{word_length}
 
 -- an octet in front of the first word
 unfoldable pub glued : ℕ → List (List ℕ) → List (List ℕ)
@@ -28,16 +28,16 @@ same (x ∷ xs) (y ∷ ys) = eqb x y && same xs ys
 -- ---- words by place
 
 -- the words of a line from a place on
-unfoldable pub wordsAt : List ℕ → ℕ → List (List ℕ)
+unfoldable pub words_at : List ℕ → ℕ → List (List ℕ)
 unfolding words_of
-wordsAt s at = pick (leb at (length s)) (words_of (drop at s)) []
+words_at s at = pick (leb at (length s)) (words_of (drop at s)) []
 
 -- where the next word starts; past the end of the line where there is none
-unfoldable pub nextPlace : List ℕ → ℕ → ℕ
-nextPlace line at = pick (leb at (length line)) (at + wordLength (drop at line) + 1) at
+unfoldable pub next_place : List ℕ → ℕ → ℕ
+next_place line at = pick (leb at (length line)) (at + word_length (drop at line) + 1) at
 
 -- where the first n words start, from a place on
-unfoldable pub placesFrom : List ℕ → ℕ → ℕ → List ℕ
-unfolding nextPlace
-placesFrom line at zero = []
-placesFrom line at (suc n) = at ∷ placesFrom line (nextPlace line at) n
+unfoldable pub places_from : List ℕ → ℕ → ℕ → List ℕ
+unfolding next_place
+places_from line at zero = []
+places_from line at (suc n) = at ∷ places_from line (next_place line at) n

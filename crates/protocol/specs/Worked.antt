@@ -2,12 +2,12 @@
 use Rattle.std.specs.Prelude.{◌≡◌, refl, List, [], ◌∷◌, map}
 use Prim.Native.String.{String}
 use Rattle.papers.specs.Names.{text}
-use Rattle.text.specs.Decimals.{valueFrom, value_of, isDigit}
-use Rattle.text.specs.Laws.Decimals.{areDigits}
-use Rattle.words.specs.Numbers.{leads, goesOn, is_number, is_signed}
-use Rattle.hex.specs.Octets.{hexDigit, areHex, isOctets, isList}
+use Rattle.text.specs.Decimals.{value_from, value_of, is_digit}
+use Rattle.text.specs.Laws.Decimals.{are_digits}
+use Rattle.words.specs.Numbers.{leads, goes_on, is_number, is_signed}
+use Rattle.hex.specs.Octets.{hex_digit, are_hex, is_octets, is_list}
 use Rattle.protocol.specs.Line.{glued, words_of, same}
-use Rattle.protocol.specs.Forms.{fits, forms, firstWrong, judgedAs, judgedBy, parseOf}
+use Rattle.protocol.specs.Forms.{fits, forms, first_wrong, judged_as, judged_by, parse_of}
 use Rattle.protocol.specs.declared.Judged.{Judged}
 use Rattle.protocol.specs.declared.Judged.TheVariants.{Asks, Wrong}
 
@@ -41,6 +41,6 @@ worked =
     ∷ record { line = "rebuild end=ok 300"; says = Wrong 2 }
     ∷ []
 
-pub worked-judged : map (λ (x : Worked). (parseOf (text x.line)).judged) worked ≡ map (λ (x : Worked). x.says) worked
-unfolding worked parseOf judgedBy judgedAs forms firstWrong fits words_of glued same is_number goesOn leads areDigits isDigit value_of valueFrom isOctets isList areHex hexDigit is_signed
-worked-judged = refl
+pub worked_judged : map (λ (x : Worked). (parse_of (text x.line)).judged) worked ≡ map (λ (x : Worked). x.says) worked
+unfolding worked parse_of judged_by judged_as forms first_wrong fits words_of glued same is_number goes_on leads are_digits is_digit value_of value_from is_octets is_list are_hex hex_digit is_signed
+worked_judged = refl

@@ -4,10 +4,10 @@
 ghost use Rattle.std.specs.Prelude.{◌≡◌, ◌+◌, ◌<◌, ◌≤◌, length, drop, set};
 ghost use Rattle.std.proofs.lemmas.List.Edits.{sets};
 ghost use Rattle.papers.specs.Papers.{SLOTS};
-ghost use Rattle.words.specs.Numbers.{valueIn, wholeIn};
-ghost use Rattle.protocol.specs.Line.{words_of, wordsAt, nextPlace, placesFrom};
-ghost use Rattle.protocol.specs.Forms.{fits, firstWrong, judgedAs, judgedBy, parseOf};
-ghost use Rattle.protocol.specs.Record.{values_of, recordIn, recordAt};
+ghost use Rattle.words.specs.Numbers.{value_in, whole_in};
+ghost use Rattle.protocol.specs.Line.{words_of, words_at, next_place, places_from};
+ghost use Rattle.protocol.specs.Forms.{fits, first_wrong, judged_as, judged_by, parse_of};
+ghost use Rattle.protocol.specs.Record.{values_of, record_in, record_at};
 ghost use Rattle.protocol.specs.Laws.Forms.{rows_of};
 
 use layout::{Numbers, Record, SLOTS};
@@ -32,7 +32,7 @@ pub struct Parsed {
 // Where the word behind the one at a place starts; past the end where there is none.
 fn next_place(line: &[u8], at: usize) -> usize
     requires { length line.now ≤ 16384 }
-    ensures { result ≡ nextPlace line.now at }
+    ensures { result ≡ next_place line.now at }
 {
     if line.len() < at {
         return at;
@@ -43,7 +43,7 @@ fn next_place(line: &[u8], at: usize) -> usize
 
 fn places(line: &[u8]) -> [usize; 10]
     requires { length line.now ≤ 16384 }
-    ensures { result ≡ placesFrom line.now 0 10 }
+    ensures { result ≡ places_from line.now 0 10 }
 {
     let b = next_place(line, 0);
     let c = next_place(line, b);
@@ -77,7 +77,7 @@ fn fits(kind: u8, word: &[u8]) -> bool
 // The number of the first word behind the name that is wrong; 0 where none is.
 fn first_wrong(line: &[u8], kinds: &[u8]) -> usize
     requires { (length line.now ≤ 16384) × (length kinds.now ≤ 16384) }
-    ensures { result ≡ firstWrong kinds.now (drop 1 (words_of line.now)) 2 }
+    ensures { result ≡ first_wrong kinds.now (drop 1 (words_of line.now)) 2 }
 {
     let mut at = next_place(line, 0);
     let mut k: usize = 0;
@@ -99,7 +99,7 @@ fn first_wrong(line: &[u8], kinds: &[u8]) -> usize
 
 fn judged_as(q: usize, line: &[u8], kinds: &[u8]) -> Judged
     requires { (length line.now ≤ 16384) × (length kinds.now ≤ 16384) }
-    ensures { result ≡ judgedAs q (firstWrong kinds.now (drop 1 (words_of line.now)) 2) }
+    ensures { result ≡ judged_as q (first_wrong kinds.now (drop 1 (words_of line.now)) 2) }
 {
     let n = first_wrong(line, kinds);
     if n == 0 {
@@ -111,7 +111,7 @@ fn judged_as(q: usize, line: &[u8], kinds: &[u8]) -> Judged
 // The line by a table of forms: words in a row, each name with the kinds behind it.
 fn judge(line: &[u8], forms: &[u8]) -> Judged
     requires { (length line.now ≤ 16384) × (length forms.now ≤ 16384) }
-    ensures { result ≡ judgedBy 0 (rows_of (words_of forms.now)) (words_of line.now) }
+    ensures { result ≡ judged_by 0 (rows_of (words_of forms.now)) (words_of line.now) }
 {
     let mut at: usize = 0;
     let mut q: usize = 0;
@@ -127,7 +127,7 @@ fn judge(line: &[u8], forms: &[u8]) -> Judged
 }
 
 pub fn parse(line: &[u8]) -> Parsed
-    ensures { result ≡ parseOf line.now }
+    ensures { result ≡ parse_of line.now }
 {
     if LONGEST < line.len() {
         return Parsed {
@@ -165,7 +165,7 @@ fn put_number(numbers: &mut Numbers, at: usize, v: i32)
 // The parts from a word on; where the word behind them starts.
 fn parts(line: &[u8], start: usize, out: &mut [u8; 8]) -> usize
     requires { length line.now ≤ 16384 }
-    ensures { (wordsAt line.now result ≡ drop 8 (wordsAt line.now start)) × (out.new ≡ sets out.old 0 (values_of (valueIn 255) 8 (wordsAt line.now start))) }
+    ensures { (words_at line.now result ≡ drop 8 (words_at line.now start)) × (out.new ≡ sets out.old 0 (values_of (value_in 255) 8 (words_at line.now start))) }
 {
     let mut at = start;
     let mut i: usize = 0;
@@ -179,7 +179,7 @@ fn parts(line: &[u8], start: usize, out: &mut [u8; 8]) -> usize
 
 fn numbers(line: &[u8], start: usize, out: &mut Numbers)
     requires { length line.now ≤ 16384 }
-    ensures { out.new ≡ sets out.old 0 (values_of wholeIn SLOTS (wordsAt line.now start)) }
+    ensures { out.new ≡ sets out.old 0 (values_of whole_in SLOTS (words_at line.now start)) }
 {
     let mut at = start;
     let mut i: usize = 0;
@@ -204,7 +204,7 @@ fn no_numbers() -> Numbers
 
 fn record_in(line: &[u8], at: usize) -> Record
     requires { length line.now ≤ 16384 }
-    ensures { result ≡ recordIn (wordsAt line.now at) }
+    ensures { result ≡ record_in (words_at line.now at) }
 {
     let mut chains = no_parts();
     let mut slots = no_numbers();
@@ -224,7 +224,7 @@ fn record_in(line: &[u8], at: usize) -> Record
 
 // The record that the words from a place on are; of a line that is too long, which is no request, the words that it begins with.
 pub fn record_at(line: &[u8], at: usize) -> Record
-    ensures { result ≡ recordAt line.now at }
+    ensures { result ≡ record_at line.now at }
 {
     if LONGEST < line.len() {
         return record_in(&line[..LONGEST], at);

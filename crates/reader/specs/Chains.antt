@@ -8,5 +8,5 @@ use Rattle.shapes.specs.Shapes.{lines_from}
 use Rattle.reader.specs.Steps.{run}
 
 -- the chain whose first part is line b, with left further parts
-abbrev pub chainAt : ℕ → List ℕ → ℕ → ℕ → Res Held
-chainAt b xs at left = run (chain (line_at b) (lines_from (b + 1) left)).read xs at
+abbrev pub chain_at : ℕ → List ℕ → ℕ → ℕ → Res Held
+chain_at b xs at left = run (chain (line_at b) (lines_from (b + 1) left)).read xs at

@@ -2,11 +2,11 @@
 use Rattle.std.specs.Prelude.{List, [], ◌∷◌, ℕ, suc, ltb, eqb, length, get_or, take, drop}
 use Rattle.codec.specs.Pick.{pick}
 use Rattle.codec.specs.Codec.{Res, got, bad}
-use Rattle.codec.specs.Field.{flags, allZero}
+use Rattle.codec.specs.Field.{flags, all_zero}
 use Rattle.codec.specs.Frame.{Outcome, accepted, refused}
-use Rattle.papers.specs.Papers.{known, itemsOf}
+use Rattle.papers.specs.Papers.{known, items_of}
 use Rattle.spots.specs.Spots.{spot_of}
-use Rattle.reader.specs.Rows.{Found, rowFrom}
+use Rattle.reader.specs.Rows.{Found, row_from}
 
 -- ---- the items of a field whose octets are xs, all up to LEN
 
@@ -16,7 +16,7 @@ ends len (bad e p) = refused e p
 
 unfoldable pub items_in : ℕ → ℕ → List ℕ → Outcome Found
 unfolding ends
-items_in cat ind xs = pick (allZero (drop (itemsOf cat) (flags ind))) (ends (length xs) (rowFrom (spot_of cat) (itemsOf cat) (flags ind) xs 2)) (refused 4 1)
+items_in cat ind xs = pick (all_zero (drop (items_of cat) (flags ind))) (ends (length xs) (row_from (spot_of cat) (items_of cat) (flags ind) xs 2)) (refused 4 1)
 
 -- every check of the reader
 unfoldable pub walk_of : ℕ → List ℕ → Outcome Found

@@ -3,32 +3,32 @@ use Rattle.std.specs.Prelude.{◌≡◌, Bool, List, [], ◌∷◌, ◌++◌, �
 use Rattle.codec.specs.Pick.{pick}
 use Rattle.codec.specs.Codec.{Res, got, bad}
 use Rattle.codec.specs.Line.{Held}
-use Rattle.codec.specs.Field.{firstFlag, nextFlags}
+use Rattle.codec.specs.Field.{first_flag, next_flags}
 use Rattle.codec.specs.Frame.{Outcome, accepted, refused}
 use Rattle.layout.specs.declared.Answer.TheVariants.{Accepted, Refused}
 use Rattle.layout.specs.declared.Surveyed.{Surveyed}
 use Rattle.reader.specs.declared.places.Places.{Places}
-use Rattle.reader.specs.Rows.{placeRun, Found}
+use Rattle.reader.specs.Rows.{place_run, Found}
 use Rattle.reader.specs.Seen.{Ends}
 
 -- the places behind some items, and then behind one more, if it is there
-abbrev pub behindAll : List ℕ → Res Held → Res (List ℕ)
-behindAll ps (got v m) = got (ps ++ (m ∷ [])) m
-behindAll ps (bad e p) = bad e p
+abbrev pub behind_all : List ℕ → Res Held → Res (List ℕ)
+behind_all ps (got v m) = got (ps ++ (m ∷ [])) m
+behind_all ps (bad e p) = bad e p
 
-abbrev pub addPlace : ℕ → Bool → List ℕ → Res (List ℕ) → Res (List ℕ)
-addPlace k t xs (got ps at) = behindAll ps (placeRun k t xs at)
-addPlace k t xs (bad e p) = bad e p
+abbrev pub add_place : ℕ → Bool → List ℕ → Res (List ℕ) → Res (List ℕ)
+add_place k t xs (got ps at) = behind_all ps (place_run k t xs at)
+add_place k t xs (bad e p) = bad e p
 
 -- n items from spot k on, the first of them behind LEN and the indicator
-unfoldable pub placesOn : ℕ → ℕ → List ℕ → List ℕ → Res (List ℕ) → Res (List ℕ)
-unfolding firstFlag nextFlags
-placesOn k zero ds xs x = x
-placesOn k (suc n) ds xs x = placesOn (k + 1) n (nextFlags ds) xs (addPlace k (eqb (firstFlag ds) 1) xs x)
+unfoldable pub places_on : ℕ → ℕ → List ℕ → List ℕ → Res (List ℕ) → Res (List ℕ)
+unfolding first_flag next_flags
+places_on k zero ds xs x = x
+places_on k (suc n) ds xs x = places_on (k + 1) n (next_flags ds) xs (add_place k (eqb (first_flag ds) 1) xs x)
 
-unfoldable pub placesFrom : ℕ → ℕ → List ℕ → List ℕ → Res (List ℕ)
-unfolding placesOn
-placesFrom k n ds xs = placesOn k n ds xs (got (2 ∷ []) 2)
+unfoldable pub places_from : ℕ → ℕ → List ℕ → List ℕ → Res (List ℕ)
+unfolding places_on
+places_from k n ds xs = places_on k n ds xs (got (2 ∷ []) 2)
 
 -- what the code of a row of n items gives: its step, and, where it ends within an octet's range, the places as octets, zeros behind them
 pub record RowSeen (x : Res (List ℕ)) (n : ℕ) (r : Places) : Type 0 where
@@ -36,15 +36,15 @@ pub record RowSeen (x : Res (List ℕ)) (n : ℕ) (r : Places) : Type 0 where
   pub places : (ps : List ℕ) (m : ℕ) → x ≡ got ps m → m < 256 → r.1 ≡ ps ++ replicate (8 - n) 0
 
 -- the survey of a field of n items and len octets
-abbrev pub unplacedOf : ℕ → ℕ → Surveyed
-unplacedOf e p = record { answer = Refused e p; items = 0; starts = replicate 9 0 }
+abbrev pub unplaced_of : ℕ → ℕ → Surveyed
+unplaced_of e p = record { answer = Refused e p; items = 0; starts = replicate 9 0 }
 
-abbrev pub surveyedBy : ℕ → ℕ → ℕ → Outcome Found → Surveyed
-surveyedBy n len ind (accepted f) = record { answer = Accepted len; items = ind; starts = (2 ∷ f.1) ++ replicate (8 - n) 0 }
-surveyedBy n len ind (refused e p) = unplacedOf e p
+abbrev pub surveyed_by : ℕ → ℕ → ℕ → Outcome Found → Surveyed
+surveyed_by n len ind (accepted f) = record { answer = Accepted len; items = ind; starts = (2 ∷ f.1) ++ replicate (8 - n) 0 }
+surveyed_by n len ind (refused e p) = unplaced_of e p
 
 -- as the code has it, by the row's step
-unfoldable pub closedOf : Places → ℕ → ℕ → Surveyed
-closedOf r ind len =
-    pick (leb 65_536 r.0) (unplacedOf (r.0 / 65_536 % 256) (r.0 % 65_536))
-    (pick (eqb r.0 len) (record { answer = Accepted r.0; items = ind; starts = r.1 }) (unplacedOf 9 r.0))
+unfoldable pub closed_of : Places → ℕ → ℕ → Surveyed
+closed_of r ind len =
+    pick (leb 65_536 r.0) (unplaced_of (r.0 / 65_536 % 256) (r.0 % 65_536))
+    (pick (eqb r.0 len) (record { answer = Accepted r.0; items = ind; starts = r.1 }) (unplaced_of 9 r.0))

@@ -16,11 +16,11 @@ pub record Ends {A : Type 0} (x : Res A) (r : ℕ) : Type 0 where
   pub fits : Coded x
 
 -- the flag of index i in an octet; FX of a part that ends at a place is the lowest bit of the octet before it
-abbrev pub flagAt : ℕ → ℕ → Bool
-flagAt o i = eqb (get_or (flags o) i 0) 1
+abbrev pub flag_at : ℕ → ℕ → Bool
+flag_at o i = eqb (get_or (flags o) i 0) 1
 
-abbrev pub goesOn : List ℕ → ℕ → Bool
-goesOn xs at = eqb (get_or xs (at - 1) 0 % 2) 1
+abbrev pub goes_on : List ℕ → ℕ → Bool
+goes_on xs at = eqb (get_or xs (at - 1) 0 % 2) 1
 
 -- x is read behind a step a, if it is there; a refusal is handed on
 pub record Went {A : Type 0} (t : Bool) (x : Res A) (a r : ℕ) : Type 0 where

@@ -8,5 +8,5 @@ use Rattle.lengths.specs.Lines.{line_at}
 abbrev pub run : {A : Type 0} → (List ℕ → Res A) → List ℕ → ℕ → Res A
 run rd xs at = shift at (rd (drop at xs))
 
-unfoldable pub lineRun : ℕ → List ℕ → ℕ → Res Held
-lineRun b xs at = run (line (line_at b)).read xs at
+unfoldable pub line_run : ℕ → List ℕ → ℕ → Res Held
+line_run b xs at = run (line (line_at b)).read xs at

@@ -4,12 +4,12 @@
 // The survey is the one walk that refuses (module places, on lines); the numbers of an accepted field are taken by rows, on taking and numbers, which test
 // nothing. Stands on lengths, shapes and spots.
 ghost use Rattle.std.specs.Prelude.{◌≡◌, true, ◌<◌, pos, length, replicate};
-ghost use Rattle.papers.specs.Papers.{known, itemsOf};
-ghost use Rattle.scope.specs.Desk.{itemIs};
+ghost use Rattle.papers.specs.Papers.{known, items_of};
+ghost use Rattle.scope.specs.Desk.{item_is};
 ghost use Rattle.scope.specs.Reading.{read_of, ReadsInto};
-ghost use Rattle.scope.specs.Survey.{surveyOf};
+ghost use Rattle.scope.specs.Survey.{survey_of};
 ghost use Rattle.reader.specs.Fields.{items_in};
-ghost use Rattle.reader.specs.Places.{unplacedOf, closedOf, surveyedBy};
+ghost use Rattle.reader.specs.Places.{unplaced_of, closed_of, surveyed_by};
 
 mod lines;
 mod numbers;
@@ -23,7 +23,7 @@ use places::Places;
 
 // No place, for a refusal.
 fn unplaced(number: u8, place: usize) -> Surveyed
-    ensures { result ≡ unplacedOf number place }
+    ensures { result ≡ unplaced_of number place }
 {
     Surveyed {
         answer: Answer::Refused(number, place),
@@ -34,7 +34,7 @@ fn unplaced(number: u8, place: usize) -> Surveyed
 
 // The step of a row as the survey of a field of len octets: nothing may be left behind its items.
 fn closed(row: Places, ind: u8, len: usize) -> Surveyed
-    ensures { result ≡ closedOf row ind len }
+    ensures { result ≡ closed_of row ind len }
 {
     let a = row.0;
     if BAD <= a {
@@ -54,7 +54,7 @@ fn closed(row: Places, ind: u8, len: usize) -> Surveyed
 // The items of a field that ends with its slice, and that nothing is left behind them.
 fn items(s: &[u8], cat: u8, ind: u8) -> Surveyed
     requires { (known cat ≡ true) × (length s.now < 256) }
-    ensures { result ≡ surveyedBy (itemsOf cat) (length s.now) ind (items_in cat ind s.now) }
+    ensures { result ≡ surveyed_by (items_of cat) (length s.now) ind (items_in cat ind s.now) }
 {
     if ind & layout::spare_of(cat) == 0 {
         let row = places::row(s, cat, ind);
@@ -65,7 +65,7 @@ fn items(s: &[u8], cat: u8, ind: u8) -> Surveyed
 
 // Where the items of a field stand: every check of the reader, in 01's order.
 pub fn survey(cat: u8, field: &[u8]) -> Surveyed
-    ensures { result ≡ surveyOf cat field.now }
+    ensures { result ≡ survey_of cat field.now }
 {
     if layout::is_known(cat) {
         if field.len() == 0 {
@@ -86,7 +86,7 @@ pub fn survey(cat: u8, field: &[u8]) -> Surveyed
 
 // Whether octets, from 1 to 253, are right for the item of index i: LEN, an indicator with that one bit and these octets are a field.
 pub fn is_item(cat: u8, i: usize, octets: &[u8]) -> bool
-    ensures { result ≡ itemIs cat i octets.now }
+    ensures { result ≡ item_is cat i octets.now }
 {
     let n = octets.len();
     if n == 0 {

@@ -3,11 +3,11 @@
 ghost use Rattle.std.specs.Prelude.{◌≡◌, ◌+◌, ◌-◌, ◌*◌, ◌^◌, ◌/◌, ◌%◌, ◌≤◌, ◌<◌, T, ltb, length, take, drop};
 ghost use Rattle.codec.specs.Signed.{to_signed};
 ghost use Rattle.codec.specs.Radix.{join, eights};
-ghost use Rattle.codec.specs.Line.{toNum, inLimits};
-ghost use Rattle.lengths.specs.Lines.{kind_of, piecesFrom, narrow};
-ghost use Rattle.reader.specs.Numbers.{inside, numsAt, pieceFits};
+ghost use Rattle.codec.specs.Line.{to_num, in_limits};
+ghost use Rattle.lengths.specs.Lines.{kind_of, pieces_from, narrow};
+ghost use Rattle.reader.specs.Numbers.{inside, nums_at, piece_fits};
 ghost use Rattle.reader.specs.Seen.{Ends};
-ghost use Rattle.reader.specs.Steps.{lineRun};
+ghost use Rattle.reader.specs.Steps.{line_run};
 
 // In a step that is one number: a refusal's number counts so much, and its place is below.
 pub const BAD: usize = 65536;
@@ -55,7 +55,7 @@ fn signed(d: u64, full: u64) -> i32
 // The number of w bits d, by its kind.
 pub fn number(d: u64, w: u64, kind: u64) -> i32
     requires { (d < 2 ^ w) × (w ≤ 24) }
-    ensures { result ≡ toNum (kind_of kind) w d }
+    ensures { result ≡ to_num (kind_of kind) w d }
 {
     if kind < 2 {
         return d as i32;
@@ -75,7 +75,7 @@ fn between(z: i32, lo: i32, hi: i32) -> bool
 // Whether the number of one piece is within the limits of its kind; it is made only where the kind has some.
 fn piece_fits(n: u64, next: u64, w: u64, kind: u64) -> bool
     requires { (w < 32) × (next < 64) × ((kind ≡ 0 → ⊥) → w ≤ 24) }
-    ensures { result ≡ pieceFits kind w n next }
+    ensures { result ≡ piece_fits kind w n next }
 {
     if kind < 3 {
         return true;
@@ -89,8 +89,8 @@ fn piece_fits(n: u64, next: u64, w: u64, kind: u64) -> bool
 
 // Whether the numbers of the pieces that lie below bit shift of n are within their limits.
 fn within(n: u64, shift: u64, code: u64, left: usize) -> bool
-    requires { (shift ≤ 48) × T (narrow (piecesFrom left code)) }
-    ensures { result ≡ inLimits (piecesFrom left code) (numsAt (piecesFrom left code) n shift) }
+    requires { (shift ≤ 48) × T (narrow (pieces_from left code)) }
+    ensures { result ≡ in_limits (pieces_from left code) (nums_at (pieces_from left code) n shift) }
 {
     if left == 0 {
         return true;
@@ -117,7 +117,7 @@ fn short(len: usize, at: usize, k: usize) -> bool
 // Line b at a place of the field: the next place, or the refusal.
 pub fn seen(s: &[u8], at: usize, b: usize) -> usize
     requires { (length s.now < 65_536) × (at < 65_536) }
-    ensures { Ends (lineRun b s.now at) result }
+    ensures { Ends (line_run b s.now at) result }
 {
     let format = lengths::format_of(b);
     let k = format.octets;

@@ -2,10 +2,10 @@
 // Promises: `take` puts the numbers that the codec of the line reads at that place into their slots; it tests nothing. Stands on lengths and lines.
 ghost use Rattle.std.specs.Prelude.{◌≡◌, ◌+◌, ◌-◌, ◌*◌, ◌/◌, ◌%◌, ◌≤◌, ◌<◌, T, length};
 ghost use Rattle.std.proofs.lemmas.List.Edits.{sets};
-ghost use Rattle.lengths.specs.Lines.{line_at, first_at, countAt, piecesFrom, narrow};
+ghost use Rattle.lengths.specs.Lines.{line_at, first_at, count_at, pieces_from, narrow};
 ghost use Rattle.papers.specs.Papers.{SLOTS};
-ghost use Rattle.reader.specs.Numbers.{numsAt, num_of};
-ghost use Rattle.reader.specs.Steps.{lineRun};
+ghost use Rattle.reader.specs.Numbers.{nums_at, num_of};
+ghost use Rattle.reader.specs.Steps.{line_run};
 ghost use Rattle.reader.specs.Taking.{LineTaken};
 
 use crate::lines;
@@ -24,8 +24,8 @@ fn piece(numbers: &mut [i32], n: u64, next: u64, w: u64, kind: u64, slot: usize)
 
 // The numbers of so many pieces that lie below bit shift of n, from a slot on.
 fn store(numbers: &mut [i32], n: u64, shift: u64, code: u64, runs: usize, first: usize)
-    requires { (shift ≤ 48) × (runs ≤ 8) × T (narrow (piecesFrom runs code)) × (first + length (numsAt (piecesFrom runs code) n shift) ≤ length numbers.old) × (length numbers.old ≤ 1000) }
-    ensures { numbers.new ≡ sets numbers.old first (numsAt (piecesFrom runs code) n shift) }
+    requires { (shift ≤ 48) × (runs ≤ 8) × T (narrow (pieces_from runs code)) × (first + length (nums_at (pieces_from runs code) n shift) ≤ length numbers.old) × (length numbers.old ≤ 1000) }
+    ensures { numbers.new ≡ sets numbers.old first (nums_at (pieces_from runs code) n shift) }
 {
     let mut next = shift;
     let mut rest = code;
@@ -42,8 +42,8 @@ fn store(numbers: &mut [i32], n: u64, shift: u64, code: u64, runs: usize, first:
 
 // Line b at a place of the field, all of whose octets are there; the slots of its item begin at base. The next place.
 pub fn take(s: &[u8], at: usize, b: usize, base: usize, numbers: &mut [i32]) -> usize
-    requires { ((line_at b).octets ≤ length s.now - at) × (base + (first_at b + countAt b) ≤ SLOTS) × (length numbers.old ≡ SLOTS) }
-    ensures { LineTaken numbers.old (base + first_at b) (lineRun b s.now at) (at + (line_at b).octets) result numbers.new }
+    requires { ((line_at b).octets ≤ length s.now - at) × (base + (first_at b + count_at b) ≤ SLOTS) × (length numbers.old ≡ SLOTS) }
+    ensures { LineTaken numbers.old (base + first_at b) (line_run b s.now at) (at + (line_at b).octets) result numbers.new }
 {
     let format = lengths::format_of(b);
     let k = format.octets;

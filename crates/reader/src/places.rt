@@ -5,14 +5,14 @@
 ghost use Rattle.std.specs.Prelude.{◌≡◌, true, ◌+◌, ◌-◌, ◌%◌, ◌<◌, T, eqb, length, get_or};
 ghost use Rattle.codec.specs.Pick.{pick};
 ghost use Rattle.codec.specs.Field.{flags};
-ghost use Rattle.papers.specs.Papers.{known, itemsOf};
-ghost use Rattle.shapes.specs.Shapes.{partsOk};
+ghost use Rattle.papers.specs.Papers.{known, items_of};
+ghost use Rattle.shapes.specs.Shapes.{parts_ok};
 ghost use Rattle.spots.specs.Spots.{spot_of};
-ghost use Rattle.reader.specs.Steps.{lineRun};
-ghost use Rattle.reader.specs.Chains.{chainAt};
-ghost use Rattle.reader.specs.Items.{itemRun};
-ghost use Rattle.reader.specs.Seen.{Ends, Went, flagAt, goesOn};
-ghost use Rattle.reader.specs.Places.{placesFrom, RowSeen};
+ghost use Rattle.reader.specs.Steps.{line_run};
+ghost use Rattle.reader.specs.Chains.{chain_at};
+ghost use Rattle.reader.specs.Items.{item_run};
+ghost use Rattle.reader.specs.Seen.{Ends, Went, flag_at, goes_on};
+ghost use Rattle.reader.specs.Places.{places_from, RowSeen};
 
 use crate::lines;
 use crate::lines::BAD;
@@ -31,7 +31,7 @@ fn octet_at(s: &[u8], at: usize) -> u8
 
 // The octet before a place: where a chain part ends there, its last flag is FX.
 fn before(s: &[u8], at: usize) -> u8
-    ensures { flagAt result 7 ≡ goesOn s.now at }
+    ensures { flag_at result 7 ≡ goes_on s.now at }
 {
     octet_at(s, leaves::less(at, 1))
 }
@@ -39,7 +39,7 @@ fn before(s: &[u8], at: usize) -> u8
 // Line b, if the flag of index i in an octet says that it is there.
 fn line(s: &[u8], a: usize, o: u8, i: usize, b: usize) -> usize
     requires { length s.now < 65_536 }
-    ensures { Went (flagAt o i) (lineRun b s.now a) a result }
+    ensures { Went (flag_at o i) (line_run b s.now a) a result }
 {
     if BAD <= a {
         return a;
@@ -52,8 +52,8 @@ fn line(s: &[u8], a: usize, o: u8, i: usize, b: usize) -> usize
 
 // A part behind which no other is defined: FX in it gives 7.
 fn only(s: &[u8], at: usize, b: usize) -> usize
-    requires { (length s.now < 65_536) × (at < 65_536) × T (partsOk b 0) }
-    ensures { Ends (chainAt b s.now at 0) result }
+    requires { (length s.now < 65_536) × (at < 65_536) × T (parts_ok b 0) }
+    ensures { Ends (chain_at b s.now at 0) result }
 {
     let n = lines::seen(s, at, b);
     if BAD <= n {
@@ -67,8 +67,8 @@ fn only(s: &[u8], at: usize, b: usize) -> usize
 
 // The same, if a flag says that it is there.
 fn last(s: &[u8], a: usize, o: u8, i: usize, b: usize) -> usize
-    requires { (length s.now < 65_536) × T (partsOk b 0) }
-    ensures { Went (flagAt o i) (chainAt b s.now a 0) a result }
+    requires { (length s.now < 65_536) × T (parts_ok b 0) }
+    ensures { Went (flag_at o i) (chain_at b s.now a 0) a result }
 {
     if BAD <= a {
         return a;
@@ -93,7 +93,7 @@ fn second(s: &[u8], at: usize, f: u8) -> u8
 // The items that have more than one line, each in the order of its lines. Line numbers stand here as literals, so that the rows of the table are constants.
 fn md5(s: &[u8], at: usize) -> usize
     requires { (length s.now < 65_536) × (at < 65_536) }
-    ensures { Ends (itemRun 0 s.now at) result }
+    ensures { Ends (item_run 0 s.now at) result }
 {
     let f = octet_at(s, at);
     let part = only(s, at, 0);
@@ -108,7 +108,7 @@ fn md5(s: &[u8], at: usize) -> usize
 
 fn m5n(s: &[u8], at: usize) -> usize
     requires { (length s.now < 65_536) × (at < 65_536) }
-    ensures { Ends (itemRun 1 s.now at) result }
+    ensures { Ends (item_run 1 s.now at) result }
 {
     let f = octet_at(s, at);
     let part = lines::seen(s, at, 8);
@@ -125,7 +125,7 @@ fn m5n(s: &[u8], at: usize) -> usize
 
 fn rpc(s: &[u8], at: usize) -> usize
     requires { (length s.now < 65_536) × (at < 65_536) }
-    ensures { Ends (itemRun 3 s.now at) result }
+    ensures { Ends (item_run 3 s.now at) result }
 {
     let f = octet_at(s, at);
     let part = only(s, at, 19);
@@ -137,7 +137,7 @@ fn rpc(s: &[u8], at: usize) -> usize
 
 fn sgv(s: &[u8], at: usize) -> usize
     requires { (length s.now < 65_536) × (at < 65_536) }
-    ensures { Ends (itemRun 9 s.now at) result }
+    ensures { Ends (item_run 9 s.now at) result }
 {
     let part = lines::seen(s, at, 29);
     last(s, part, before(s, part), 7, 30)
@@ -145,7 +145,7 @@ fn sgv(s: &[u8], at: usize) -> usize
 
 fn sta(s: &[u8], at: usize) -> usize
     requires { (length s.now < 65_536) × (at < 65_536) }
-    ensures { Ends (itemRun 10 s.now at) result }
+    ensures { Ends (item_run 10 s.now at) result }
 {
     let part = lines::seen(s, at, 31);
     let second = line(s, part, before(s, part), 7, 32);
@@ -157,7 +157,7 @@ fn sta(s: &[u8], at: usize) -> usize
 
 fn mes(s: &[u8], at: usize) -> usize
     requires { (length s.now < 65_536) × (at < 65_536) }
-    ensures { Ends (itemRun 12 s.now at) result }
+    ensures { Ends (item_run 12 s.now at) result }
 {
     let f = octet_at(s, at);
     let part = only(s, at, 38);
@@ -172,7 +172,7 @@ fn mes(s: &[u8], at: usize) -> usize
 // One item of those that some paper has, from the first octet on.
 pub fn item(s: &[u8], k: usize) -> usize
     requires { length s.now < 65_536 }
-    ensures { Ends (itemRun k s.now 0) result }
+    ensures { Ends (item_run k s.now 0) result }
 {
     match k {
         0 => md5(s, 0),
@@ -196,7 +196,7 @@ pub fn item(s: &[u8], k: usize) -> usize
 // The same items, if a flag says that they are there. Each is asked before it is called, so that an absent one costs no call.
 fn md5_there(s: &[u8], a: usize, o: u8, i: usize) -> usize
     requires { length s.now < 65_536 }
-    ensures { Went (flagAt o i) (itemRun 0 s.now a) a result }
+    ensures { Went (flag_at o i) (item_run 0 s.now a) a result }
 {
     if BAD <= a {
         return a;
@@ -209,7 +209,7 @@ fn md5_there(s: &[u8], a: usize, o: u8, i: usize) -> usize
 
 fn m5n_there(s: &[u8], a: usize, o: u8, i: usize) -> usize
     requires { length s.now < 65_536 }
-    ensures { Went (flagAt o i) (itemRun 1 s.now a) a result }
+    ensures { Went (flag_at o i) (item_run 1 s.now a) a result }
 {
     if BAD <= a {
         return a;
@@ -222,7 +222,7 @@ fn m5n_there(s: &[u8], a: usize, o: u8, i: usize) -> usize
 
 fn rpc_there(s: &[u8], a: usize, o: u8, i: usize) -> usize
     requires { length s.now < 65_536 }
-    ensures { Went (flagAt o i) (itemRun 3 s.now a) a result }
+    ensures { Went (flag_at o i) (item_run 3 s.now a) a result }
 {
     if BAD <= a {
         return a;
@@ -235,7 +235,7 @@ fn rpc_there(s: &[u8], a: usize, o: u8, i: usize) -> usize
 
 fn sgv_there(s: &[u8], a: usize, o: u8, i: usize) -> usize
     requires { length s.now < 65_536 }
-    ensures { Went (flagAt o i) (itemRun 9 s.now a) a result }
+    ensures { Went (flag_at o i) (item_run 9 s.now a) a result }
 {
     if BAD <= a {
         return a;
@@ -248,7 +248,7 @@ fn sgv_there(s: &[u8], a: usize, o: u8, i: usize) -> usize
 
 fn sta_there(s: &[u8], a: usize, o: u8, i: usize) -> usize
     requires { length s.now < 65_536 }
-    ensures { Went (flagAt o i) (itemRun 10 s.now a) a result }
+    ensures { Went (flag_at o i) (item_run 10 s.now a) a result }
 {
     if BAD <= a {
         return a;
@@ -261,7 +261,7 @@ fn sta_there(s: &[u8], a: usize, o: u8, i: usize) -> usize
 
 fn mes_there(s: &[u8], a: usize, o: u8, i: usize) -> usize
     requires { length s.now < 65_536 }
-    ensures { Went (flagAt o i) (itemRun 12 s.now a) a result }
+    ensures { Went (flag_at o i) (item_run 12 s.now a) a result }
 {
     if BAD <= a {
         return a;
@@ -278,7 +278,7 @@ pub struct Places(pub usize, pub [u8; 9]);
 
 fn row_048(s: &[u8], ind: u8) -> Places
     requires { length s.now < 65_536 }
-    ensures { RowSeen (placesFrom 0 5 (flags ind) s.now) 5 result }
+    ensures { RowSeen (places_from 0 5 (flags ind) s.now) 5 result }
 {
     let md5 = md5_there(s, 2, ind, 0);
     let m5n = m5n_there(s, md5, ind, 1);
@@ -303,7 +303,7 @@ fn row_048(s: &[u8], ind: u8) -> Places
 
 fn row_021(s: &[u8], ind: u8) -> Places
     requires { length s.now < 65_536 }
-    ensures { RowSeen (placesFrom 5 8 (flags ind) s.now) 8 result }
+    ensures { RowSeen (places_from 5 8 (flags ind) s.now) 8 result }
 {
     let bps = line(s, 2, ind, 0, 25);
     let selh = line(s, bps, ind, 1, 26);
@@ -331,7 +331,7 @@ fn row_021(s: &[u8], ind: u8) -> Places
 
 fn row_007(s: &[u8], ind: u8) -> Places
     requires { length s.now < 65_536 }
-    ensures { RowSeen (placesFrom 13 5 (flags ind) s.now) 5 result }
+    ensures { RowSeen (places_from 13 5 (flags ind) s.now) 5 result }
 {
     let ta = line(s, 2, ind, 0, 45);
     let m5n = m5n_there(s, ta, ind, 1);
@@ -357,7 +357,7 @@ fn row_007(s: &[u8], ind: u8) -> Places
 // The row of a category.
 pub fn row(s: &[u8], cat: u8, ind: u8) -> Places
     requires { (length s.now < 65_536) × (known cat ≡ true) }
-    ensures { RowSeen (placesFrom (spot_of cat) (itemsOf cat) (flags ind) s.now) (itemsOf cat) result }
+    ensures { RowSeen (places_from (spot_of cat) (items_of cat) (flags ind) s.now) (items_of cat) result }
 {
     match cat {
         Cat048::NUMBER => row_048(s, ind),

@@ -3,9 +3,9 @@
 // The numbers of lines and slots stand here as literals, so that the rows of the table are constants.
 ghost use Rattle.std.specs.Prelude.{◌≡◌, true, length};
 ghost use Rattle.codec.specs.Field.{flags};
-ghost use Rattle.papers.specs.Papers.{known, itemsOf, SLOTS};
+ghost use Rattle.papers.specs.Papers.{known, items_of, SLOTS};
 ghost use Rattle.spots.specs.Spots.{spot_of};
-ghost use Rattle.reader.specs.Rows.{rowFrom};
+ghost use Rattle.reader.specs.Rows.{row_from};
 ghost use Rattle.reader.specs.Taking.{RowFits, RowTaken};
 
 use crate::taking;
@@ -13,7 +13,7 @@ use layout::{Cat021, Cat048};
 
 fn row_048(s: &[u8], ind: u8, starts: [u8; 9], numbers: &mut [i32]) -> [u8; 8]
     requires { (length numbers.old ≡ SLOTS) × RowFits 0 5 (flags ind) s.now starts }
-    ensures { RowTaken numbers.old 5 (rowFrom 0 5 (flags ind) s.now 2) result numbers.new }
+    ensures { RowTaken numbers.old 5 (row_from 0 5 (flags ind) s.now 2) result numbers.new }
 {
     let md5 = taking::md5(
         s,
@@ -56,7 +56,7 @@ fn row_048(s: &[u8], ind: u8, starts: [u8; 9], numbers: &mut [i32]) -> [u8; 8]
 
 fn row_021(s: &[u8], ind: u8, starts: [u8; 9], numbers: &mut [i32]) -> [u8; 8]
     requires { (length numbers.old ≡ SLOTS) × RowFits 5 8 (flags ind) s.now starts }
-    ensures { RowTaken numbers.old 8 (rowFrom 5 8 (flags ind) s.now 2) result numbers.new }
+    ensures { RowTaken numbers.old 8 (row_from 5 8 (flags ind) s.now 2) result numbers.new }
 {
     let bps = taking::line(
         s,
@@ -124,7 +124,7 @@ fn row_021(s: &[u8], ind: u8, starts: [u8; 9], numbers: &mut [i32]) -> [u8; 8]
 
 fn row_007(s: &[u8], ind: u8, starts: [u8; 9], numbers: &mut [i32]) -> [u8; 8]
     requires { (length numbers.old ≡ SLOTS) × RowFits 13 5 (flags ind) s.now starts }
-    ensures { RowTaken numbers.old 5 (rowFrom 13 5 (flags ind) s.now 2) result numbers.new }
+    ensures { RowTaken numbers.old 5 (row_from 13 5 (flags ind) s.now 2) result numbers.new }
 {
     let ta = taking::line(
         s,
@@ -168,8 +168,8 @@ fn row_007(s: &[u8], ind: u8, starts: [u8; 9], numbers: &mut [i32]) -> [u8; 8]
 
 // The row of a category.
 pub fn row(s: &[u8], cat: u8, ind: u8, starts: [u8; 9], numbers: &mut [i32]) -> [u8; 8]
-    requires { (known cat ≡ true) × (length numbers.old ≡ SLOTS) × RowFits (spot_of cat) (itemsOf cat) (flags ind) s.now starts }
-    ensures { RowTaken numbers.old (itemsOf cat) (rowFrom (spot_of cat) (itemsOf cat) (flags ind) s.now 2) result numbers.new }
+    requires { (known cat ≡ true) × (length numbers.old ≡ SLOTS) × RowFits (spot_of cat) (items_of cat) (flags ind) s.now starts }
+    ensures { RowTaken numbers.old (items_of cat) (row_from (spot_of cat) (items_of cat) (flags ind) s.now 2) result numbers.new }
 {
     match cat {
         Cat048::NUMBER => row_048(s, ind, starts, &mut *numbers),

@@ -4,10 +4,10 @@
 ghost use Rattle.std.specs.Prelude.{◌≡◌, ◌+◌, ◌≤◌, ◌<◌, T, eqb, ltb, length, get_or};
 ghost use Rattle.codec.specs.Pick.{pick};
 ghost use Rattle.codec.specs.Field.{flags};
-ghost use Rattle.lengths.specs.Lines.{line_at, first_at, countAt};
+ghost use Rattle.lengths.specs.Lines.{line_at, first_at, count_at};
 ghost use Rattle.papers.specs.Papers.{SLOTS};
-ghost use Rattle.reader.specs.Taking.{isGot, lineOpt, optRun, OptTaken, Stops, ItemTaken};
-ghost use Rattle.reader.specs.Seen.{goesOn};
+ghost use Rattle.reader.specs.Taking.{is_got, line_opt, opt_run, OptTaken, Stops, ItemTaken};
+ghost use Rattle.reader.specs.Seen.{goes_on};
 
 use crate::numbers;
 
@@ -21,7 +21,7 @@ fn subfield(
     base: usize,
     numbers: &mut [i32],
 ) -> usize
-    requires { (length numbers.old ≡ SLOTS) × (base + (first_at b + countAt b) ≤ SLOTS) × (a + pick (eqb (get_or (flags o) i 0) 1) (line_at b).octets 0 ≤ length s.now) }
+    requires { (length numbers.old ≡ SLOTS) × (base + (first_at b + count_at b) ≤ SLOTS) × (a + pick (eqb (get_or (flags o) i 0) 1) (line_at b).octets 0 ≤ length s.now) }
     ensures { OptTaken numbers.old (base + first_at b) b (eqb (get_or (flags o) i 0) 1) s.now a result numbers.new }
 {
     if flags::present(o, i) {
@@ -32,8 +32,8 @@ fn subfield(
 
 // A further part of a chain, if the part that ends at a place goes on.
 fn further(s: &[u8], a: usize, b: usize, base: usize, numbers: &mut [i32]) -> usize
-    requires { (length numbers.old ≡ SLOTS) × (base + (first_at b + countAt b) ≤ SLOTS) × ((line_at b).octets ≡ 1) × Stops s.now a }
-    ensures taken { OptTaken numbers.old (base + first_at b) b (goesOn s.now a) s.now a result numbers.new }
+    requires { (length numbers.old ≡ SLOTS) × (base + (first_at b + count_at b) ≤ SLOTS) × ((line_at b).octets ≡ 1) × Stops s.now a }
+    ensures taken { OptTaken numbers.old (base + first_at b) b (goes_on s.now a) s.now a result numbers.new }
     ensures stops { Stops s.now result }
 {
     if s[a - 1] % 2 == 1 {
@@ -55,8 +55,8 @@ fn second_flags(s: &[u8], from: usize, to: usize) -> u8
 
 // An item that is one line.
 pub fn line(s: &[u8], at: usize, there: bool, b: usize, base: usize, numbers: &mut [i32]) -> u8
-    requires { (length numbers.old ≡ SLOTS) × ((line_at b).fx ≡ 0) × (first_at b ≡ 0) × (base + countAt b ≤ SLOTS) × T (isGot (lineOpt b there s.now at)) }
-    ensures { ItemTaken numbers.old base (lineOpt b there s.now at) result numbers.new }
+    requires { (length numbers.old ≡ SLOTS) × ((line_at b).fx ≡ 0) × (first_at b ≡ 0) × (base + count_at b ≤ SLOTS) × T (is_got (line_opt b there s.now at)) }
+    ensures { ItemTaken numbers.old base (line_opt b there s.now at) result numbers.new }
 {
     if there {
         numbers::take(s, at, b, base, &mut *numbers);
@@ -65,8 +65,8 @@ pub fn line(s: &[u8], at: usize, there: bool, b: usize, base: usize, numbers: &m
 }
 
 pub fn md5(s: &[u8], at: usize, there: bool, base: usize, numbers: &mut [i32]) -> u8
-    requires { (length numbers.old ≡ SLOTS) × (base + 33 ≤ SLOTS) × T (isGot (optRun 0 there s.now at)) }
-    ensures { ItemTaken numbers.old base (optRun 0 there s.now at) result numbers.new }
+    requires { (length numbers.old ≡ SLOTS) × (base + 33 ≤ SLOTS) × T (is_got (opt_run 0 there s.now at)) }
+    ensures { ItemTaken numbers.old base (opt_run 0 there s.now at) result numbers.new }
 {
     if there {
         let part = numbers::take(s, at, 0, base, &mut *numbers);
@@ -84,8 +84,8 @@ pub fn md5(s: &[u8], at: usize, there: bool, base: usize, numbers: &mut [i32]) -
 }
 
 pub fn m5n(s: &[u8], at: usize, there: bool, base: usize, numbers: &mut [i32]) -> u8
-    requires { (length numbers.old ≡ SLOTS) × (base + 34 ≤ SLOTS) × T (isGot (optRun 1 there s.now at)) }
-    ensures { ItemTaken numbers.old base (optRun 1 there s.now at) result numbers.new }
+    requires { (length numbers.old ≡ SLOTS) × (base + 34 ≤ SLOTS) × T (is_got (opt_run 1 there s.now at)) }
+    ensures { ItemTaken numbers.old base (opt_run 1 there s.now at) result numbers.new }
 {
     if there {
         let part = numbers::take(s, at, 8, base, &mut *numbers);
@@ -106,8 +106,8 @@ pub fn m5n(s: &[u8], at: usize, there: bool, base: usize, numbers: &mut [i32]) -
 }
 
 pub fn m4e(s: &[u8], at: usize, there: bool, base: usize, numbers: &mut [i32]) -> u8
-    requires { (length numbers.old ≡ SLOTS) × (base + 1 ≤ SLOTS) × T (isGot (optRun 2 there s.now at)) }
-    ensures { ItemTaken numbers.old base (optRun 2 there s.now at) result numbers.new }
+    requires { (length numbers.old ≡ SLOTS) × (base + 1 ≤ SLOTS) × T (is_got (opt_run 2 there s.now at)) }
+    ensures { ItemTaken numbers.old base (opt_run 2 there s.now at) result numbers.new }
 {
     if there {
         numbers::take(s, at, 18, base, &mut *numbers);
@@ -117,8 +117,8 @@ pub fn m4e(s: &[u8], at: usize, there: bool, base: usize, numbers: &mut [i32]) -
 }
 
 pub fn rpc(s: &[u8], at: usize, there: bool, base: usize, numbers: &mut [i32]) -> u8
-    requires { (length numbers.old ≡ SLOTS) × (base + 8 ≤ SLOTS) × T (isGot (optRun 3 there s.now at)) }
-    ensures { ItemTaken numbers.old base (optRun 3 there s.now at) result numbers.new }
+    requires { (length numbers.old ≡ SLOTS) × (base + 8 ≤ SLOTS) × T (is_got (opt_run 3 there s.now at)) }
+    ensures { ItemTaken numbers.old base (opt_run 3 there s.now at) result numbers.new }
 {
     if there {
         let part = numbers::take(s, at, 19, base, &mut *numbers);
@@ -133,8 +133,8 @@ pub fn rpc(s: &[u8], at: usize, there: bool, base: usize, numbers: &mut [i32]) -
 }
 
 pub fn sgv(s: &[u8], at: usize, there: bool, base: usize, numbers: &mut [i32]) -> u8
-    requires { (length numbers.old ≡ SLOTS) × (base + 6 ≤ SLOTS) × T (isGot (optRun 9 there s.now at)) }
-    ensures { ItemTaken numbers.old base (optRun 9 there s.now at) result numbers.new }
+    requires { (length numbers.old ≡ SLOTS) × (base + 6 ≤ SLOTS) × T (is_got (opt_run 9 there s.now at)) }
+    ensures { ItemTaken numbers.old base (opt_run 9 there s.now at) result numbers.new }
 {
     if there {
         let part = numbers::take(s, at, 29, base, &mut *numbers);
@@ -145,8 +145,8 @@ pub fn sgv(s: &[u8], at: usize, there: bool, base: usize, numbers: &mut [i32]) -
 }
 
 pub fn sta(s: &[u8], at: usize, there: bool, base: usize, numbers: &mut [i32]) -> u8
-    requires { (length numbers.old ≡ SLOTS) × (base + 26 ≤ SLOTS) × T (isGot (optRun 10 there s.now at)) }
-    ensures { ItemTaken numbers.old base (optRun 10 there s.now at) result numbers.new }
+    requires { (length numbers.old ≡ SLOTS) × (base + 26 ≤ SLOTS) × T (is_got (opt_run 10 there s.now at)) }
+    ensures { ItemTaken numbers.old base (opt_run 10 there s.now at) result numbers.new }
 {
     if there {
         let part = numbers::take(s, at, 31, base, &mut *numbers);
@@ -161,8 +161,8 @@ pub fn sta(s: &[u8], at: usize, there: bool, base: usize, numbers: &mut [i32]) -
 }
 
 pub fn mes(s: &[u8], at: usize, there: bool, base: usize, numbers: &mut [i32]) -> u8
-    requires { (length numbers.old ≡ SLOTS) × (base + 29 ≤ SLOTS) × T (isGot (optRun 12 there s.now at)) }
-    ensures { ItemTaken numbers.old base (optRun 12 there s.now at) result numbers.new }
+    requires { (length numbers.old ≡ SLOTS) × (base + 29 ≤ SLOTS) × T (is_got (opt_run 12 there s.now at)) }
+    ensures { ItemTaken numbers.old base (opt_run 12 there s.now at) result numbers.new }
 {
     if there {
         let part = numbers::take(s, at, 38, base, &mut *numbers);

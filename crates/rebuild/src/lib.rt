@@ -7,9 +7,9 @@ ghost use Rattle.std.specs.Prelude.{◌≡◌, ◌∷◌, ℕ};
 ghost use Rattle.codec.specs.Field.{Contents};
 ghost use Rattle.layout.specs.Answer.{length_of};
 ghost use Rattle.layout.specs.declared.Answer.TheVariants.{Refused};
-ghost use Rattle.scope.specs.Sheet.{sheetOf};
-ghost use Rattle.guess.specs.Guess.{sheetWith, firstWrong};
-ghost use Rattle.rebuild.specs.Rebuilds.{givenBy, Rebuilds};
+ghost use Rattle.scope.specs.Sheet.{sheet_of};
+ghost use Rattle.guess.specs.Guess.{sheet_with, first_wrong};
+ghost use Rattle.rebuild.specs.Rebuilds.{given_by, Rebuilds};
 
 use layout::{Answer, LONGEST};
 
@@ -31,7 +31,7 @@ fn refused(no: u8, line: usize) -> Rebuilt
 
 // An answer with the category that goes with it.
 fn given(cat: u8, answer: Answer) -> Rebuilt
-    ensures { result ≡ givenBy cat answer }
+    ensures { result ≡ given_by cat answer }
 {
     match answer {
         Answer::Accepted(n) => Rebuilt {
@@ -54,7 +54,7 @@ fn octets_in(answer: Answer) -> usize
 
 // The first line, from 1, in which a text differs from the sheet of a field, with len for the value of its `len`; 0 if it does not.
 fn wrong(cat: u8, len: u64, field: &[u8], text: &[u8]) -> usize
-    ensures { (n : ℕ) (r : Contents) → sheetOf (cat ∷ field.now) ≡ sheetWith cat n r → result ≡ firstWrong 1 (sheetWith cat len r) text.now }
+    ensures { (n : ℕ) (r : Contents) → sheet_of (cat ∷ field.now) ≡ sheet_with cat n r → result ≡ first_wrong 1 (sheet_with cat len r) text.now }
 {
     let mut own = [0u8; 4096];
     let end = sheet::listed(cat, field, &mut own);

@@ -5,8 +5,8 @@ use Rattle.std.proofs.Common.{◌∙◌, arith, drop-drop}
 use mathlib.Core.List.{List, []}
 use Rattle.std.proofs.Math.ListN.{drop, length-drop, drop_of_length-le}
 use Rattle.lines.specs.Lines.{left}
-use Rattle.lines.specs.Joining.{join_of, lineAfter, Joins}
-use Rattle.lines.specs.Laws.Lines.{Holds, holds-none, join-ends, join-goes-on, place-further}
+use Rattle.lines.specs.Joining.{join_of, line_after, Joins}
+use Rattle.lines.specs.Laws.Lines.{Holds, holds_none, join_ends, join-goes_on, place_further}
 use Rattle.lines.specs.declared.Joined.{Joined}
 
 -- taking in the octets of a read: the array that held a line then holds what is left behind those octets, unless the program ends
@@ -23,14 +23,14 @@ pub record Since (array : List ℕ) (n : ℕ) (s rest : List ℕ) : Type 0 where
 -- each turn takes an octet
 pub further : (octets : List ℕ) (at n : ℕ) (array : List ℕ) {array' : List ℕ} {j : Joined} → Joins octets at n array j array' → at < length octets → at < j.at
 further octets at n array x h =
-    omega (arith, ap (λ (k : Joined). k.at) x.0, place-further (length array) (drop at octets) n at (omega (arith, length-drop at octets)))
+    omega (arith, ap (λ (k : Joined). k.at) x.0, place_further (length array) (drop at octets) n at (omega (arith, length-drop at octets)))
 
 module _ (octets : List ℕ) (at n : ℕ) {array array' rest : List ℕ} {j : Joined} (x : Joins octets at n array j array') (y : Since array n (drop at octets) rest) where
   joined : j ≡ join_of 16_385 (drop at octets) n at
   joined = x.0 ∙ ap (λ r. join_of r (drop at octets) n at) y.holds.room
 
-  array-is : array' ≡ lineAfter 16_385 (drop at octets) n array
-  array-is = x.1 ∙ ap (λ r. lineAfter r (drop at octets) n array) y.holds.room
+  array_is : array' ≡ line_after 16_385 (drop at octets) n array
+  array_is = x.1 ∙ ap (λ r. line_after r (drop at octets) n array) y.holds.room
 
   ended_is : {b : Bool} → j.ended ≡ b → (join_of 16_385 (drop at octets) n at).ended ≡ b
   ended_is e = ap (λ (k : Joined). k.ended) (sym joined) ∙ e
@@ -39,14 +39,14 @@ module _ (octets : List ℕ) (at n : ℕ) {array array' rest : List ℕ} {j : Jo
   place_is = ap (λ (k : Joined). k.at) (sym joined)
 
   -- the line was answered, and none is held
-  pub since-line : j.ended ≡ true → {r : ℕ} → r ≡ 0 → at < length octets → Since array' r (drop j.at octets) rest
-  since-line e er h =
-      let g = join-ends (drop at octets) y.holds at (ended_is e) in
+  pub since_line : j.ended ≡ true → {r : ℕ} → r ≡ 0 → at < length octets → Since array' r (drop j.at octets) rest
+  since_line e er h =
+      let g = join_ends (drop at octets) y.holds at (ended_is e) in
       let p : at + (j.at - at) ≡ j.at = omega (arith, further octets at n array x h) in
       let d : drop ((join_of 16_385 (drop at octets) n at).at - at) (drop at octets) ≡ drop j.at octets =
       ap (λ k. drop (k - at) (drop at octets)) place_is ∙ drop-drop (j.at - at) at octets ∙ ap (λ k. drop k octets) p in record {
         line = [];
-        holds = rw er (holds-none array' (ap length array-is ∙ g.stands.room));
+        holds = rw er (holds_none array' (ap length array_is ∙ g.stands.room));
         same = y.same ∙ g.rest ∙ ap (left []) d;
       }
 
@@ -54,15 +54,15 @@ module _ (octets : List ℕ) (at n : ℕ) {array array' rest : List ℕ} {j : Jo
   pub since_none : j.ended ≡ false → Since array' j.held (drop j.at octets) rest
   unfolding left
   since_none e =
-      let g = join-goes-on (drop at octets) y.holds at (ended_is e) in
+      let g = join-goes_on (drop at octets) y.holds at (ended_is e) in
       let d : drop j.at octets ≡ [] = drop_of_length-le octets {i = j.at} (omega (arith, g.all, place_is, length-drop at octets)) in record {
         line = left y.line (drop at octets);
-        holds = rw (array-is, ap (λ (k : Joined). k.held) joined) g.stands;
+        holds = rw (array_is, ap (λ (k : Joined). k.held) joined) g.stands;
         same = y.same ∙ sym (ap (left (left y.line (drop at octets))) d);
       }
 
-pub since-all : (octets : List ℕ) (at : ℕ) → length octets ≤ at → {array rest : List ℕ} {n : ℕ} → Since array n (drop at octets) rest → Holds array n rest
+pub since_all : (octets : List ℕ) (at : ℕ) → length octets ≤ at → {array rest : List ℕ} {n : ℕ} → Since array n (drop at octets) rest → Holds array n rest
 unfolding left
-since-all octets at h {array} {rest} {n} y =
+since_all octets at h {array} {rest} {n} y =
     let e : left y.line (drop at octets) ≡ y.line = ap (left y.line) (drop_of_length-le octets {i = at} h) in
     rw (y.same ∙ e) y.holds

@@ -10,104 +10,104 @@ use Rattle.layout.specs.declared.View.TheVariants.{Shown, Hidden}
 use Rattle.layout.specs.declared.Choice.{Choice}
 use Rattle.layout.specs.declared.Reading.{Reading}
 use Rattle.layout.specs.declared.Record.{Record}
-use Rattle.layout.specs.Answer.{whichNumber}
-use Rattle.scope.specs.Sheet.{decimal, signedDecimal}
-use Rattle.text.specs.Hex.{hexText}
+use Rattle.layout.specs.Answer.{which_number}
+use Rattle.scope.specs.Sheet.{decimal, signed_decimal}
+use Rattle.text.specs.Hex.{hex_text}
 use Rattle.papers.specs.Papers.{SLOTS}
 
 -- a number behind a space; 32 is the space
 unfoldable pub next : ℕ → List ℕ
 next n = 32 ∷ decimal n
 
-unfoldable pub nextSigned : ℤ → List ℕ
-nextSigned z = 32 ∷ signedDecimal z
+unfoldable pub next_signed : ℤ → List ℕ
+next_signed z = 32 ∷ signed_decimal z
 
-unfoldable pub nextOctets : List ℕ → List ℕ
-nextOctets s = 32 ∷ hexText s
+unfoldable pub next_octets : List ℕ → List ℕ
+next_octets s = 32 ∷ hex_text s
 
 -- `bad-request N`
-unfoldable pub badRequest : ℕ → List ℕ
+unfoldable pub bad_request : ℕ → List ℕ
 unfolding next
-badRequest n = text "bad-request" ++ next n
+bad_request n = text "bad-request" ++ next n
 
 -- `refused NO PLACE`
-unfoldable pub refusalText : ℕ → ℕ → List ℕ
+unfoldable pub refusal_text : ℕ → ℕ → List ℕ
 unfolding next
-refusalText n p = text "refused" ++ (next n ++ next p)
+refusal_text n p = text "refused" ++ (next n ++ next p)
 
 -- `ok OCTETS`
-unfoldable pub outputText : Outcome (List ℕ) → List ℕ
-unfolding refusalText nextOctets
-outputText (accepted b) = text "ok" ++ nextOctets b
-outputText (refused n p) = refusalText n p
+unfoldable pub output_text : Outcome (List ℕ) → List ℕ
+unfolding refusal_text next_octets
+output_text (accepted b) = text "ok" ++ next_octets b
+output_text (refused n p) = refusal_text n p
 
 -- of the answer and the output that it left
-unfoldable pub leftText : Answer → List ℕ → List ℕ
-unfolding refusalText nextOctets
-leftText (Accepted n) out = text "ok" ++ nextOctets (take n out)
-leftText (Refused n p) out = refusalText n p
+unfoldable pub left_text : Answer → List ℕ → List ℕ
+unfolding refusal_text next_octets
+left_text (Accepted n) out = text "ok" ++ next_octets (take n out)
+left_text (Refused n p) out = refusal_text n p
 
 -- `ok CAT OCTETS`
-unfoldable pub givenText : Outcome (ℕ × List ℕ) → List ℕ
-unfolding refusalText next nextOctets
-givenText (accepted x) = text "ok" ++ (next x.0 ++ nextOctets x.1)
-givenText (refused n p) = refusalText n p
+unfoldable pub given_text : Outcome (ℕ × List ℕ) → List ℕ
+unfolding refusal_text next next_octets
+given_text (accepted x) = text "ok" ++ (next x.0 ++ next_octets x.1)
+given_text (refused n p) = refusal_text n p
 
 -- of the category, the answer and the output that it left
-unfoldable pub rebuiltText : ℕ → Answer → List ℕ → List ℕ
-unfolding refusalText next nextOctets
-rebuiltText cat (Accepted n) out = text "ok" ++ (next cat ++ nextOctets (take n out))
-rebuiltText cat (Refused n p) out = refusalText n p
+unfoldable pub rebuilt_text : ℕ → Answer → List ℕ → List ℕ
+unfolding refusal_text next next_octets
+rebuilt_text cat (Accepted n) out = text "ok" ++ (next cat ++ next_octets (take n out))
+rebuilt_text cat (Refused n p) out = refusal_text n p
 
 -- `ok START LENGTH OCTETS`
-unfoldable pub shownText : ℕ → ℕ → List ℕ → List ℕ
-unfolding next nextOctets
-shownText a n s = next a ++ (next n ++ nextOctets s)
+unfoldable pub shown_text : ℕ → ℕ → List ℕ → List ℕ
+unfolding next next_octets
+shown_text a n s = next a ++ (next n ++ next_octets s)
 
 -- of the view and the part that it shows
-unfoldable pub viewText : View → List ℕ → List ℕ
-unfolding refusalText shownText
-viewText (Shown a n) s = text "ok" ++ shownText a n s
-viewText (Hidden n p) s = refusalText n p
+unfoldable pub view_text : View → List ℕ → List ℕ
+unfolding refusal_text shown_text
+view_text (Shown a n) s = text "ok" ++ shown_text a n s
+view_text (Hidden n p) s = refusal_text n p
 
 -- `ok WHICH START LENGTH OCTETS`, or `refused NO PLACE WHICH`
-unfoldable pub choiceIn : ℕ → View → List ℕ → List ℕ
-unfolding refusalText shownText
-choiceIn which (Shown a n) s = text "ok" ++ (next which ++ shownText a n s)
-choiceIn which (Hidden n p) s = refusalText n p ++ next which
+unfoldable pub choice_in : ℕ → View → List ℕ → List ℕ
+unfolding refusal_text shown_text
+choice_in which (Shown a n) s = text "ok" ++ (next which ++ shown_text a n s)
+choice_in which (Hidden n p) s = refusal_text n p ++ next which
 
-unfoldable pub choiceText : Choice → List ℕ → List ℕ
-unfolding choiceIn
-choiceText c s = choiceIn (whichNumber c.which) c.view s
+unfoldable pub choice_text : Choice → List ℕ → List ℕ
+unfolding choice_in
+choice_text c s = choice_in (which_number c.which) c.view s
 
 -- words in a row
-unfoldable pub wordsText : {A : Type 0} → (A → List ℕ) → List A → List ℕ
-wordsText word [] = []
-wordsText word (x ∷ xs) = word x ++ wordsText word xs
+unfoldable pub words_text : {A : Type 0} → (A → List ℕ) → List A → List ℕ
+words_text word [] = []
+words_text word (x ∷ xs) = word x ++ words_text word xs
 
 -- the record: `CAT ITEMS`, 8 parts, the numbers
-unfoldable pub recordText : Record → List ℕ
-unfolding wordsText
-recordText f = next f.cat ++ (next f.items ++ (wordsText next (take 8 f.parts) ++ wordsText nextSigned (take SLOTS f.numbers)))
+unfoldable pub record_text : Record → List ℕ
+unfolding words_text
+record_text f = next f.cat ++ (next f.items ++ (words_text next (take 8 f.parts) ++ words_text next_signed (take SLOTS f.numbers)))
 
 -- `ok LEN` and the record
-unfoldable pub readIn : Answer → Record → List ℕ
-unfolding refusalText recordText
-readIn (Accepted n) f = text "ok" ++ (next n ++ recordText f)
-readIn (Refused n p) f = refusalText n p
+unfoldable pub read_in : Answer → Record → List ℕ
+unfolding refusal_text record_text
+read_in (Accepted n) f = text "ok" ++ (next n ++ record_text f)
+read_in (Refused n p) f = refusal_text n p
 
-unfoldable pub readingText : Reading → List ℕ
-unfolding readIn
-readingText r = readIn r.answer r.kept
+unfoldable pub reading_text : Reading → List ℕ
+unfolding read_in
+reading_text r = read_in r.answer r.kept
 
 -- `ok` and the lines of a sheet, a space in place of each line feed but the last; 10 is the line feed
-unfoldable pub inLine : ℕ → ℕ
-inLine o = pick (eqb o 10) 32 o
+unfoldable pub in_line : ℕ → ℕ
+in_line o = pick (eqb o 10) 32 o
 
-unfoldable pub lineOctet : ℕ → List ℕ
-unfolding inLine
-lineOctet o = inLine o ∷ []
+unfoldable pub line_octet : ℕ → List ℕ
+unfolding in_line
+line_octet o = in_line o ∷ []
 
-unfoldable pub sheetText : List ℕ → List ℕ
-unfolding wordsText lineOctet
-sheetText sheet = text "ok" ++ (32 ∷ wordsText lineOctet (take (length sheet - 1) sheet))
+unfoldable pub sheet_text : List ℕ → List ℕ
+unfolding words_text line_octet
+sheet_text sheet = text "ok" ++ (32 ∷ words_text line_octet (take (length sheet - 1) sheet))

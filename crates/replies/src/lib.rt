@@ -3,7 +3,7 @@
 ghost use Rattle.std.specs.Prelude.{◌≡◌};
 ghost use Rattle.papers.specs.Names.{text};
 ghost use Rattle.text.specs.Typing.{Types};
-ghost use Rattle.replies.specs.Texts.{next, nextSigned, nextOctets, badRequest, refusalText, leftText, rebuiltText, shownText, viewText, choiceText, wordsText, recordText, readingText, inLine, lineOctet, sheetText};
+ghost use Rattle.replies.specs.Texts.{next, next_signed, next_octets, bad_request, refusal_text, left_text, rebuilt_text, shown_text, view_text, choice_text, words_text, record_text, reading_text, in_line, line_octet, sheet_text};
 
 use layout::{Answer, Choice, Reading, Record, View};
 
@@ -17,14 +17,14 @@ fn next(n: u64, at: usize, buf: &mut [u8; 4096]) -> usize
 }
 
 fn next_signed(z: i64, at: usize, buf: &mut [u8; 4096]) -> usize
-    ensures { Types (nextSigned z) buf.old at buf.new result }
+    ensures { Types (next_signed z) buf.old at buf.new result }
 {
     let start = text::octet(b' ', at, &mut *buf);
     text::signed(z, start, &mut *buf)
 }
 
 fn next_octets(s: &[u8], at: usize, buf: &mut [u8; 4096]) -> usize
-    ensures { Types (nextOctets s.now) buf.old at buf.new result }
+    ensures { Types (next_octets s.now) buf.old at buf.new result }
 {
     let start = text::octet(b' ', at, &mut *buf);
     text::octets(s, start, &mut *buf)
@@ -33,14 +33,14 @@ fn next_octets(s: &[u8], at: usize, buf: &mut [u8; 4096]) -> usize
 // ---- answers
 
 pub fn bad_request(n: usize, buf: &mut [u8; 4096]) -> usize
-    ensures { Types (badRequest n) buf.old 0 buf.new result }
+    ensures { Types (bad_request n) buf.old 0 buf.new result }
 {
     let at = text::word(b"bad-request", 0, &mut *buf);
     next(n as u64, at, &mut *buf)
 }
 
 pub fn refusal(no: u8, place: usize, buf: &mut [u8; 4096]) -> usize
-    ensures { Types (refusalText no place) buf.old 0 buf.new result }
+    ensures { Types (refusal_text no place) buf.old 0 buf.new result }
 {
     let number = text::word(b"refused", 0, &mut *buf);
     let at = next(no as u64, number, &mut *buf);
@@ -55,7 +55,7 @@ fn ok(buf: &mut [u8; 4096]) -> usize
 
 // The answer of an operation with an output, and what it left in the output's front.
 pub fn left(answer: Answer, out: &[u8], buf: &mut [u8; 4096]) -> usize
-    ensures { Types (leftText answer out.now) buf.old 0 buf.new result }
+    ensures { Types (left_text answer out.now) buf.old 0 buf.new result }
 {
     match answer {
         Answer::Accepted(n) => {
@@ -68,7 +68,7 @@ pub fn left(answer: Answer, out: &[u8], buf: &mut [u8; 4096]) -> usize
 
 // The same with the category in front of the octets.
 pub fn rebuilt_text(cat: u8, answer: Answer, out: &[u8], buf: &mut [u8; 4096]) -> usize
-    ensures { Types (rebuiltText cat answer out.now) buf.old 0 buf.new result }
+    ensures { Types (rebuilt_text cat answer out.now) buf.old 0 buf.new result }
 {
     match answer {
         Answer::Accepted(n) => {
@@ -81,7 +81,7 @@ pub fn rebuilt_text(cat: u8, answer: Answer, out: &[u8], buf: &mut [u8; 4096]) -
 }
 
 fn shown(start: usize, n: usize, part: &[u8], at: usize, buf: &mut [u8; 4096]) -> usize
-    ensures { Types (shownText start n part.now) buf.old at buf.new result }
+    ensures { Types (shown_text start n part.now) buf.old at buf.new result }
 {
     let count = next(start as u64, at, &mut *buf);
     let octets = next(n as u64, count, &mut *buf);
@@ -89,7 +89,7 @@ fn shown(start: usize, n: usize, part: &[u8], at: usize, buf: &mut [u8; 4096]) -
 }
 
 pub fn view_text(view: View, part: &[u8], buf: &mut [u8; 4096]) -> usize
-    ensures { Types (viewText view part.now) buf.old 0 buf.new result }
+    ensures { Types (view_text view part.now) buf.old 0 buf.new result }
 {
     match view {
         View::Shown(start, n) => {
@@ -101,7 +101,7 @@ pub fn view_text(view: View, part: &[u8], buf: &mut [u8; 4096]) -> usize
 }
 
 pub fn choice_text(choice: Choice, part: &[u8], buf: &mut [u8; 4096]) -> usize
-    ensures { Types (choiceText choice part.now) buf.old 0 buf.new result }
+    ensures { Types (choice_text choice part.now) buf.old 0 buf.new result }
 {
     let which = choice.which;
     let number = layout::which_number(which) as u64;
@@ -122,7 +122,7 @@ pub fn choice_text(choice: Choice, part: &[u8], buf: &mut [u8; 4096]) -> usize
 // ---- a record
 
 fn octet_words(octets: &[u8], at: usize, buf: &mut [u8; 4096]) -> usize
-    ensures { Types (wordsText next octets.now) buf.old at buf.new result }
+    ensures { Types (words_text next octets.now) buf.old at buf.new result }
 {
     let mut end = at;
     let mut i: usize = 0;
@@ -134,7 +134,7 @@ fn octet_words(octets: &[u8], at: usize, buf: &mut [u8; 4096]) -> usize
 }
 
 fn number_words(numbers: &[i32], at: usize, buf: &mut [u8; 4096]) -> usize
-    ensures { Types (wordsText nextSigned numbers.now) buf.old at buf.new result }
+    ensures { Types (words_text next_signed numbers.now) buf.old at buf.new result }
 {
     let mut end = at;
     let mut i: usize = 0;
@@ -146,7 +146,7 @@ fn number_words(numbers: &[i32], at: usize, buf: &mut [u8; 4096]) -> usize
 }
 
 fn record_text(kept: Record, at: usize, buf: &mut [u8; 4096]) -> usize
-    ensures { Types (recordText kept) buf.old at buf.new result }
+    ensures { Types (record_text kept) buf.old at buf.new result }
 {
     let parts = kept.parts;
     let numbers = kept.numbers;
@@ -157,7 +157,7 @@ fn record_text(kept: Record, at: usize, buf: &mut [u8; 4096]) -> usize
 }
 
 pub fn reading_text(reading: Reading, buf: &mut [u8; 4096]) -> usize
-    ensures { Types (readingText reading) buf.old 0 buf.new result }
+    ensures { Types (reading_text reading) buf.old 0 buf.new result }
 {
     let answer = reading.answer;
     match answer {
@@ -175,7 +175,7 @@ pub fn reading_text(reading: Reading, buf: &mut [u8; 4096]) -> usize
 
 // A line feed as a space, so that a line of the sheet becomes a word of the answer.
 fn in_line(o: u8) -> u8
-    ensures { result ≡ inLine o }
+    ensures { result ≡ in_line o }
 {
     if o == 10 {
         return b' ';
@@ -184,7 +184,7 @@ fn in_line(o: u8) -> u8
 }
 
 fn line_words(octets: &[u8], at: usize, buf: &mut [u8; 4096]) -> usize
-    ensures { Types (wordsText lineOctet octets.now) buf.old at buf.new result }
+    ensures { Types (words_text line_octet octets.now) buf.old at buf.new result }
 {
     let mut end = at;
     let mut i: usize = 0;
@@ -197,7 +197,7 @@ fn line_words(octets: &[u8], at: usize, buf: &mut [u8; 4096]) -> usize
 
 // The lines of a sheet: each behind a space, without the last line feed.
 pub fn sheet_text(sheet: &[u8], buf: &mut [u8; 4096]) -> usize
-    ensures { Types (sheetText sheet.now) buf.old 0 buf.new result }
+    ensures { Types (sheet_text sheet.now) buf.old 0 buf.new result }
 {
     let space = ok(&mut *buf);
     let at = text::octet(b' ', space, &mut *buf);

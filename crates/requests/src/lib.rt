@@ -3,17 +3,17 @@
 // their contracts.
 ghost use Rattle.std.specs.Prelude.{◌≡◌, ◌∷◌, ◌<◌, ◌≤◌, length};
 ghost use Rattle.codec.specs.Change.{remove, put};
-ghost use Rattle.scope.specs.Desk.{editOf};
+ghost use Rattle.scope.specs.Desk.{edit_of};
 ghost use Rattle.scope.specs.Reading.{read_of};
-ghost use Rattle.scope.specs.Sheet.{sheetOf};
-ghost use Rattle.scope.specs.Views.{view_of, chooseOf};
+ghost use Rattle.scope.specs.Sheet.{sheet_of};
+ghost use Rattle.scope.specs.Views.{view_of, choose_of};
 ghost use Rattle.scope.specs.Visitors.{copy_of};
-ghost use Rattle.scope.specs.Writing.{writeOf};
+ghost use Rattle.scope.specs.Writing.{write_of};
 ghost use Rattle.text.specs.Typing.{Types};
-ghost use Rattle.guess.specs.Guess.{rebuildOf};
-ghost use Rattle.replies.specs.Texts.{outputText, givenText};
-ghost use Rattle.answers.specs.Answers.{viewed, chosen, listed, readAnswer, writeAnswer, sheetAnswer, viewAnswer, chooseAnswer, removeAnswer, replaceAnswer, copyAnswer, rebuildAnswer, asked, answer_of};
-ghost use Rattle.requests.specs.Laws.Requests.{word_in, wordsFrom};
+ghost use Rattle.guess.specs.Guess.{rebuild_of};
+ghost use Rattle.replies.specs.Texts.{output_text, given_text};
+ghost use Rattle.answers.specs.Answers.{viewed, chosen, listed, read_answer, write_answer, sheet_answer, view_answer, choose_answer, remove_answer, replace_answer, copy_answer, rebuild_answer, asked, answer_of};
+ghost use Rattle.requests.specs.Laws.Requests.{word_in, words_from};
 
 use layout::{Answer, Record};
 use protocol::Judged;
@@ -21,7 +21,7 @@ use protocol::Judged;
 // ---- the operations, and their answers
 
 fn listed(cat: u8, field: &[u8], buf: &mut [u8; 4096]) -> usize
-    ensures { Types (listed (read_of cat field.now).answer (sheetOf (cat ∷ field.now))) buf.old 0 buf.new result }
+    ensures { Types (listed (read_of cat field.now).answer (sheet_of (cat ∷ field.now))) buf.old 0 buf.new result }
 {
     let reading = reader::read(cat, field);
     let answer = reading.answer;
@@ -49,7 +49,7 @@ fn chosen<'a>(
     item: u8,
     buf: &mut [u8; 4096],
 ) -> usize
-    ensures { Types (chosen base.now correction.now (chooseOf cat base.now correction.now item)) buf.old 0 buf.new result }
+    ensures { Types (chosen base.now correction.now (choose_of cat base.now correction.now item)) buf.old 0 buf.new result }
 {
     let choice = views::choose_answer(cat, base, correction, item);
     let part = views::choose(cat, base, correction, item);
@@ -57,7 +57,7 @@ fn chosen<'a>(
 }
 
 fn removed(cat: u8, field: &[u8], list: u8, item: u8, out: &mut [u8], buf: &mut [u8; 4096]) -> usize
-    ensures { Types (outputText (editOf cat field.now list item remove (length out.old))) buf.old 0 buf.new result }
+    ensures { Types (output_text (edit_of cat field.now list item remove (length out.old))) buf.old 0 buf.new result }
 {
     let answer = desk::remove(cat, field, list, item, &mut *out);
     replies::left(answer, out, &mut *buf)
@@ -72,21 +72,21 @@ fn replaced<'a>(
     out: &mut [u8],
     buf: &mut [u8; 4096],
 ) -> usize
-    ensures { Types (outputText (editOf cat field.now list item (put new.now) (length out.old))) buf.old 0 buf.new result }
+    ensures { Types (output_text (edit_of cat field.now list item (put new.now) (length out.old))) buf.old 0 buf.new result }
 {
     let answer = desk::replace(cat, field, list, item, new, &mut *out);
     replies::left(answer, out, &mut *buf)
 }
 
 fn copied(cat: u8, field: &[u8], withheld: u8, out: &mut [u8], buf: &mut [u8; 4096]) -> usize
-    ensures { Types (outputText (copy_of cat field.now withheld (length out.old))) buf.old 0 buf.new result }
+    ensures { Types (output_text (copy_of cat field.now withheld (length out.old))) buf.old 0 buf.new result }
 {
     let answer = visitors::copy(cat, field, withheld, &mut *out);
     replies::left(answer, out, &mut *buf)
 }
 
 fn rebuilt(text: &[u8], out: &mut [u8], buf: &mut [u8; 4096]) -> usize
-    ensures { Types (givenText (rebuildOf text.now (length out.old))) buf.old 0 buf.new result }
+    ensures { Types (given_text (rebuild_of text.now (length out.old))) buf.old 0 buf.new result }
 {
     let given = rebuild::rebuild(text, &mut *out);
     let answer = given.answer;
@@ -94,7 +94,7 @@ fn rebuilt(text: &[u8], out: &mut [u8], buf: &mut [u8; 4096]) -> usize
 }
 
 fn written(kept: Record, out: &mut [u8], buf: &mut [u8; 4096]) -> usize
-    ensures { Types (outputText (writeOf kept (length out.old))) buf.old 0 buf.new result }
+    ensures { Types (output_text (write_of kept (length out.old))) buf.old 0 buf.new result }
 {
     let answer = writer::write(kept, &mut *out);
     replies::left(answer, out, &mut *buf)
@@ -124,7 +124,7 @@ fn word<'a>(line: &'a [u8], starts: &[usize; 10], k: usize) -> &'a [u8]
 }
 
 fn read(line: &[u8], starts: &[usize; 10], buf: &mut [u8; 4096]) -> usize
-    ensures { Types (readAnswer (word_in line.now starts.now)) buf.old 0 buf.new result }
+    ensures { Types (read_answer (word_in line.now starts.now)) buf.old 0 buf.new result }
 {
     let mut field = blank();
     let cat = words::small(word(line, starts, 1));
@@ -135,7 +135,7 @@ fn read(line: &[u8], starts: &[usize; 10], buf: &mut [u8; 4096]) -> usize
 
 fn write(line: &[u8], starts: &[usize; 10], buf: &mut [u8; 4096]) -> usize
     requires { length line.now ≤ 16384 }
-    ensures { Types (writeAnswer (word_in line.now starts.now) (wordsFrom line.now starts.now)) buf.old 0 buf.new result }
+    ensures { Types (write_answer (word_in line.now starts.now) (words_from line.now starts.now)) buf.old 0 buf.new result }
 {
     let mut out = output();
     let room = words::room(word(line, starts, 1));
@@ -144,7 +144,7 @@ fn write(line: &[u8], starts: &[usize; 10], buf: &mut [u8; 4096]) -> usize
 }
 
 fn sheet(line: &[u8], starts: &[usize; 10], buf: &mut [u8; 4096]) -> usize
-    ensures { Types (sheetAnswer (word_in line.now starts.now)) buf.old 0 buf.new result }
+    ensures { Types (sheet_answer (word_in line.now starts.now)) buf.old 0 buf.new result }
 {
     let mut field = blank();
     let cat = words::small(word(line, starts, 1));
@@ -153,7 +153,7 @@ fn sheet(line: &[u8], starts: &[usize; 10], buf: &mut [u8; 4096]) -> usize
 }
 
 fn view(line: &[u8], starts: &[usize; 10], buf: &mut [u8; 4096]) -> usize
-    ensures { Types (viewAnswer (word_in line.now starts.now)) buf.old 0 buf.new result }
+    ensures { Types (view_answer (word_in line.now starts.now)) buf.old 0 buf.new result }
 {
     let mut field = blank();
     let cat = words::small(word(line, starts, 1));
@@ -163,7 +163,7 @@ fn view(line: &[u8], starts: &[usize; 10], buf: &mut [u8; 4096]) -> usize
 }
 
 fn choose(line: &[u8], starts: &[usize; 10], buf: &mut [u8; 4096]) -> usize
-    ensures { Types (chooseAnswer (word_in line.now starts.now)) buf.old 0 buf.new result }
+    ensures { Types (choose_answer (word_in line.now starts.now)) buf.old 0 buf.new result }
 {
     let mut base = blank();
     let mut correction = blank();
@@ -175,7 +175,7 @@ fn choose(line: &[u8], starts: &[usize; 10], buf: &mut [u8; 4096]) -> usize
 }
 
 fn remove(line: &[u8], starts: &[usize; 10], buf: &mut [u8; 4096]) -> usize
-    ensures { Types (removeAnswer (word_in line.now starts.now)) buf.old 0 buf.new result }
+    ensures { Types (remove_answer (word_in line.now starts.now)) buf.old 0 buf.new result }
 {
     let mut field = blank();
     let mut out = output();
@@ -188,7 +188,7 @@ fn remove(line: &[u8], starts: &[usize; 10], buf: &mut [u8; 4096]) -> usize
 }
 
 fn replace(line: &[u8], starts: &[usize; 10], buf: &mut [u8; 4096]) -> usize
-    ensures { Types (replaceAnswer (word_in line.now starts.now)) buf.old 0 buf.new result }
+    ensures { Types (replace_answer (word_in line.now starts.now)) buf.old 0 buf.new result }
 {
     let mut field = blank();
     let mut new = blank();
@@ -211,7 +211,7 @@ fn replace(line: &[u8], starts: &[usize; 10], buf: &mut [u8; 4096]) -> usize
 }
 
 fn copy(line: &[u8], starts: &[usize; 10], buf: &mut [u8; 4096]) -> usize
-    ensures { Types (copyAnswer (word_in line.now starts.now)) buf.old 0 buf.new result }
+    ensures { Types (copy_answer (word_in line.now starts.now)) buf.old 0 buf.new result }
 {
     let mut field = blank();
     let mut out = output();
@@ -223,7 +223,7 @@ fn copy(line: &[u8], starts: &[usize; 10], buf: &mut [u8; 4096]) -> usize
 }
 
 fn rebuild(line: &[u8], starts: &[usize; 10], buf: &mut [u8; 4096]) -> usize
-    ensures { Types (rebuildAnswer (word_in line.now starts.now)) buf.old 0 buf.new result }
+    ensures { Types (rebuild_answer (word_in line.now starts.now)) buf.old 0 buf.new result }
 {
     let mut text = blank();
     let mut out = output();
@@ -236,7 +236,7 @@ fn rebuild(line: &[u8], starts: &[usize; 10], buf: &mut [u8; 4096]) -> usize
 
 fn asked(q: usize, line: &[u8], starts: &[usize; 10], buf: &mut [u8; 4096]) -> usize
     requires { length line.now ≤ 16384 }
-    ensures { Types (asked q (word_in line.now starts.now) (wordsFrom line.now starts.now)) buf.old 0 buf.new result }
+    ensures { Types (asked q (word_in line.now starts.now) (words_from line.now starts.now)) buf.old 0 buf.new result }
 {
     match q {
         0 => read(line, starts, &mut *buf),

@@ -6,12 +6,12 @@ use Rattle.std.specs.Prelude.{ℕ, suc, ◌+◌, ◌*◌, ◌/◌, ℤ, pos, neg
 unfoldable pub rounded : ℕ → ℕ
 rounded n = (n * 703_125 + 16_384) / 32_768
 
-unfoldable pub udegOf : ℤ → ℤ
+unfoldable pub udeg_of : ℤ → ℤ
 unfolding rounded
-udegOf (pos n) = pos (rounded n)
-udegOf (negsuc n) = neg_ℤ (pos (rounded (suc n)))
+udeg_of (pos n) = pos (rounded n)
+udeg_of (negsuc n) = neg_ℤ (pos (rounded (suc n)))
 
 -- what the millionths leave over, in parts of 32,768 (02, Ask 7): "the number times 703,125 equals the millionths times 32,768 plus the leftover"
 unfoldable pub left_of : ℤ → ℤ
-unfolding udegOf
-left_of n = n *ℤ pos 703_125 -ℤ udegOf n *ℤ pos 32_768
+unfolding udeg_of
+left_of n = n *ℤ pos 703_125 -ℤ udeg_of n *ℤ pos 32_768

@@ -1,19 +1,19 @@
 -- 01, 'Octets tried at each edge': the rows marked P, the worked edits and the angles, computed from the definitions; and beside them, in the same form,
 -- rows that show the order of checks of the other operations.
 use Rattle.std.specs.Prelude.{◌≡◌, refl, Bool, true, false, List, [], ◌∷◌, map, ℕ, ℤ, pos, negsuc, replicate, set}
-use Rattle.codec.specs.Signed.{to_signed, ofSigned, in_signed}
+use Rattle.codec.specs.Signed.{to_signed, of_signed, in_signed}
 use Rattle.codec.specs.Radix.{total, cut, join, digits}
 use Rattle.codec.specs.Codec.{number}
-use Rattle.codec.specs.Line.{toNum, ofNum, inNum, limit, widths, count, clear, nums, unnums, fitNums, inLimits, cells, line}
-use Rattle.codec.specs.Item.{slots_of, slots, is_zero, zeros, beside, fxOf, chain, isOne, subfields, item}
-use Rattle.codec.specs.Field.{isNil, isCons, uncons, firstFlag, nextFlags, row, allZero, indicator, body, texts, textsOf, before}
-use Rattle.codec.specs.Frame.{Outcome, accepted, refused, settle, readFrame, writeFrame, okayFrame}
+use Rattle.codec.specs.Line.{to_num, of_num, in_num, limit, widths, count, clear, nums, unnums, fit_nums, in_limits, cells, line}
+use Rattle.codec.specs.Item.{slots_of, slots, is_zero, zeros, beside, fx_of, chain, is_one, subfields, item}
+use Rattle.codec.specs.Field.{is_nil, is_cons, uncons, first_flag, next_flags, row, all_zero, indicator, body, texts, texts_of, before}
+use Rattle.codec.specs.Frame.{Outcome, accepted, refused, settle, read_frame, write_frame, okay_frame}
 use Rattle.codec.specs.Meaning.{len_of}
-use Rattle.codec.specs.Change.{Change, remove, put, setFlag, setItem, blankAt, alone, put_in, change}
+use Rattle.codec.specs.Change.{Change, remove, put, set_flag, set_item, blank_at, alone, put_in, change}
 use Rattle.papers.specs.Cat048.{cat048}
 use Rattle.papers.specs.Cat021.{cat021}
 use Rattle.papers.specs.Cat007.{cat007}
-use Rattle.papers.specs.Papers.{known, paperOf, SLOTS, allSlots}
+use Rattle.papers.specs.Papers.{known, paper_of, SLOTS, all_slots}
 use Rattle.layout.specs.declared.Record.{Record}
 use Rattle.layout.specs.declared.Reading.{Reading}
 use Rattle.layout.specs.declared.View.{View}
@@ -21,37 +21,37 @@ use Rattle.layout.specs.declared.View.TheVariants.{Shown, Hidden}
 use Rattle.layout.specs.declared.Which.{Which}
 use Rattle.layout.specs.declared.Which.TheVariants.{Neither, Base, Correction}
 use Rattle.layout.specs.declared.Answer.TheVariants.{Accepted, Refused}
-use Rattle.layout.specs.Record.{allParts, allNumbers, flatten, regroup, unflatten, noParts, fitsPaper, contents}
-use Rattle.scope.specs.Reading.{field_of, noRecord, shown, read_of}
-use Rattle.scope.specs.Writing.{writable, written, writeOf}
-use Rattle.scope.specs.Outputs.{withRoom}
-use Rattle.scope.specs.Views.{isItem, present, standing, viewIn, view_of, chooseIn, chooseOf}
-use Rattle.scope.specs.Desk.{listed, afresh, editIn, editOf}
-use Rattle.scope.specs.Visitors.{without, copyIn, copy_of}
-use Rattle.scope.specs.Angle.{rounded, udegOf, left_of}
-use Rattle.scope.specs.Pressure.{eqZ, stands}
+use Rattle.layout.specs.Record.{all_parts, all_numbers, flatten, regroup, unflatten, no_parts, fits_paper, contents}
+use Rattle.scope.specs.Reading.{field_of, no_record, shown, read_of}
+use Rattle.scope.specs.Writing.{writable, written, write_of}
+use Rattle.scope.specs.Outputs.{with_room}
+use Rattle.scope.specs.Views.{is_item, present, standing, view_in, view_of, choose_in, choose_of}
+use Rattle.scope.specs.Desk.{listed, afresh, edit_in, edit_of}
+use Rattle.scope.specs.Visitors.{without, copy_in, copy_of}
+use Rattle.scope.specs.Angle.{rounded, udeg_of, left_of}
+use Rattle.scope.specs.Pressure.{eq_int, stands}
 
 -- ---- reading
 
 -- the number n refused at p; a record of category 48 with one item, whose parts stand at its place, and some numbers at their slots
 abbrev no : ℕ → ℕ → Reading
-no n p = record { answer = Refused n p; kept = noRecord }
+no n p = record { answer = Refused n p; kept = no_record }
 
-numbersAt : List (ℕ × ℤ) → List ℤ
-numbersAt [] = replicate SLOTS (pos 0)
-numbersAt (p ∷ ps) = set (numbersAt ps) p.0 p.1
+numbers_at : List (ℕ × ℤ) → List ℤ
+numbers_at [] = replicate SLOTS (pos 0)
+numbers_at (p ∷ ps) = set (numbers_at ps) p.0 p.1
 
 abbrev one : ℕ → ℕ → ℕ → ℕ → List (ℕ × ℤ) → Reading
 one len ind place parts ps = record {
   answer = Accepted len;
-  kept = record { cat = 48; items = ind; parts = set (replicate 8 0) place parts; numbers = numbersAt ps };
+  kept = record { cat = 48; items = ind; parts = set (replicate 8 0) place parts; numbers = numbers_at ps };
 }
 
 abbrev pub Edge : Type 0
 Edge = List ℕ × Reading
 
 unfoldable pub edges : List Edge
-unfolding numbersAt
+unfolding numbers_at
 edges =
     (2 ∷ 0x00 ∷ [], one 2 0 0 0 [])
     ∷ (2 ∷ 0x80 ∷ [], no 5 2)
@@ -67,9 +67,9 @@ edges =
     ∷ (6 ∷ 0x08 ∷ 0x01 ∷ 0x00 ∷ 0x00 ∷ 0x00 ∷ [], no 9 5)
     ∷ []
 
-pub edges-read : map (λ (r : Edge). read_of 48 r.0) edges ≡ map (λ (r : Edge). r.1) edges
-unfolding edges numbersAt noRecord read_of shown field_of known paperOf cat048 flatten allParts allNumbers allSlots len_of settle readFrame body indicator allZero row firstFlag nextFlags slots item chain beside subfields isOne slots_of line cells number toNum to_signed limit widths count clear nums inLimits total cut join
-edges-read = refl
+pub edges_read : map (λ (r : Edge). read_of 48 r.0) edges ≡ map (λ (r : Edge). r.1) edges
+unfolding edges numbers_at no_record read_of shown field_of known paper_of cat048 flatten all_parts all_numbers all_slots len_of settle read_frame body indicator all_zero row first_flag next_flags slots item chain beside subfields is_one slots_of line cells number to_num to_signed limit widths count clear nums in_limits total cut join
+edges_read = refl
 
 -- ---- writing: 1, 10, 11. A record of category 48 with M4E 3, and what it lacks
 
@@ -82,22 +82,22 @@ pub record Draft : Type 0 where
   pub gives : Outcome (List ℕ)
 
 unfoldable pub drafts : List Draft
-unfolding numbersAt
+unfolding numbers_at
 drafts =
-    record { cat = 48; items = 0x20; parts = set (replicate 8 0) 2 1; numbers = numbersAt ((67, pos 3) ∷ []); room = 3; gives = accepted (3 ∷ 0x20 ∷ 0x06 ∷ []) }
-    ∷ record { cat = 48; items = 0x20; parts = set (replicate 8 0) 2 1; numbers = numbersAt ((67, pos 3) ∷ []); room = 2; gives = refused 11 0 }
-    ∷ record { cat = 48; items = 0x20; parts = set (replicate 8 0) 2 1; numbers = numbersAt ((67, pos 4) ∷ []); room = 2; gives = refused 10 0 }
-    ∷ record { cat = 48; items = 0x00; parts = set (replicate 8 0) 2 1; numbers = numbersAt []; room = 3; gives = refused 10 0 }
-    ∷ record { cat = 48; items = 0x00; parts = replicate 8 0; numbers = numbersAt ((76, negsuc 0) ∷ []); room = 3; gives = refused 10 0 }
-    ∷ record { cat = 49; items = 0x20; parts = replicate 8 0; numbers = numbersAt []; room = 0; gives = refused 1 0 }
+    record { cat = 48; items = 0x20; parts = set (replicate 8 0) 2 1; numbers = numbers_at ((67, pos 3) ∷ []); room = 3; gives = accepted (3 ∷ 0x20 ∷ 0x06 ∷ []) }
+    ∷ record { cat = 48; items = 0x20; parts = set (replicate 8 0) 2 1; numbers = numbers_at ((67, pos 3) ∷ []); room = 2; gives = refused 11 0 }
+    ∷ record { cat = 48; items = 0x20; parts = set (replicate 8 0) 2 1; numbers = numbers_at ((67, pos 4) ∷ []); room = 2; gives = refused 10 0 }
+    ∷ record { cat = 48; items = 0x00; parts = set (replicate 8 0) 2 1; numbers = numbers_at []; room = 3; gives = refused 10 0 }
+    ∷ record { cat = 48; items = 0x00; parts = replicate 8 0; numbers = numbers_at ((76, negsuc 0) ∷ []); room = 3; gives = refused 10 0 }
+    ∷ record { cat = 49; items = 0x20; parts = replicate 8 0; numbers = numbers_at []; room = 0; gives = refused 1 0 }
     ∷ []
 
-abbrev recordOf : Draft → Record
-recordOf d = record { cat = d.cat; items = d.items; parts = d.parts; numbers = d.numbers }
+abbrev record_of : Draft → Record
+record_of d = record { cat = d.cat; items = d.items; parts = d.parts; numbers = d.numbers }
 
-pub drafts-written : map (λ (d : Draft). writeOf (recordOf d) d.room) drafts ≡ map (λ (d : Draft). d.gives) drafts
-unfolding drafts numbersAt writeOf writable written withRoom known paperOf cat048 contents flatten unflatten regroup fitsPaper noParts allSlots okayFrame writeFrame body indicator allZero row firstFlag nextFlags uncons isCons isNil slots zeros is_zero item chain fxOf beside subfields isOne slots_of line cells number ofNum inNum ofSigned in_signed to_signed limit widths count clear unnums fitNums inLimits digits total cut join
-drafts-written = refl
+pub drafts_written : map (λ (d : Draft). write_of (record_of d) d.room) drafts ≡ map (λ (d : Draft). d.gives) drafts
+unfolding drafts numbers_at write_of writable written with_room known paper_of cat048 contents flatten unflatten regroup fits_paper no_parts all_slots okay_frame write_frame body indicator all_zero row first_flag next_flags uncons is_cons is_nil slots zeros is_zero item chain fx_of beside subfields is_one slots_of line cells number of_num in_num of_signed in_signed to_signed limit widths count clear unnums fit_nums in_limits digits total cut join
+drafts_written = refl
 
 -- ---- views and choices in `03 20 06` and `06 28 06 01 00 00`: the reader's refusals, 12, 15; 1, the base's, the correction's, 12, 15
 
@@ -112,9 +112,9 @@ views =
     ∷ (49, [], 6, Hidden 1 0)
     ∷ []
 
-pub views-shown : map (λ (p : ℕ × List ℕ × ℕ × View). view_of p.0 p.1 p.2) views ≡ map (λ (p : ℕ × List ℕ × ℕ × View). p.3) views
-unfolding views view_of viewIn standing present isItem field_of known paperOf cat048 texts textsOf before len_of settle readFrame body indicator allZero row firstFlag nextFlags uncons slots item chain fxOf beside subfields isOne slots_of line cells number toNum ofNum to_signed ofSigned limit widths count clear nums unnums inLimits total cut join
-views-shown = refl
+pub views_shown : map (λ (p : ℕ × List ℕ × ℕ × View). view_of p.0 p.1 p.2) views ≡ map (λ (p : ℕ × List ℕ × ℕ × View). p.3) views
+unfolding views view_of view_in standing present is_item field_of known paper_of cat048 texts texts_of before len_of settle read_frame body indicator all_zero row first_flag next_flags uncons slots item chain fx_of beside subfields is_one slots_of line cells number to_num of_num to_signed of_signed limit widths count clear nums unnums in_limits total cut join
+views_shown = refl
 
 pub record Pair : Type 0 where
   pub cat : ℕ
@@ -135,9 +135,9 @@ pairs =
     ∷ record { cat = 0; base = []; correction = []; item = 9; which = Neither; view = Hidden 1 0 }
     ∷ []
 
-pub pairs-chosen : map (λ (p : Pair). chooseOf p.cat p.base p.correction p.item) pairs ≡ map (λ (p : Pair). record { which = p.which; view = p.view }) pairs
-unfolding pairs chooseOf chooseIn standing present isItem known paperOf cat048 texts textsOf before len_of settle readFrame body indicator allZero row firstFlag nextFlags uncons slots item chain fxOf beside subfields isOne slots_of line cells number toNum ofNum to_signed ofSigned limit widths count clear nums unnums inLimits total cut join
-pairs-chosen = refl
+pub pairs_chosen : map (λ (p : Pair). choose_of p.cat p.base p.correction p.item) pairs ≡ map (λ (p : Pair). record { which = p.which; view = p.view }) pairs
+unfolding pairs choose_of choose_in standing present is_item known paper_of cat048 texts texts_of before len_of settle read_frame body indicator all_zero row first_flag next_flags uncons slots item chain fx_of beside subfields is_one slots_of line cells number to_num of_num to_signed of_signed limit widths count clear nums unnums in_limits total cut join
+pairs_chosen = refl
 
 -- ---- "Edits of `06 28 06 01 00 00`"
 
@@ -162,9 +162,9 @@ tries =
     ∷ record { list = 0xFF; item = 1; what = remove; room = 52; gives = accepted (0x06 ∷ 0x28 ∷ 0x06 ∷ 0x01 ∷ 0x00 ∷ 0x00 ∷ []) }
     ∷ []
 
-pub tries-edited : map (λ (t : Try). editOf 48 (0x06 ∷ 0x28 ∷ 0x06 ∷ 0x01 ∷ 0x00 ∷ 0x00 ∷ []) t.list t.item t.what t.room) tries ≡ map (λ (t : Try). t.gives) tries
-unfolding tries editOf editIn afresh withRoom listed isItem field_of known paperOf cat048 change put_in alone blankAt setItem setFlag len_of settle readFrame writeFrame body indicator allZero row firstFlag nextFlags uncons slots item chain fxOf beside subfields isOne slots_of line cells number toNum ofNum to_signed ofSigned limit widths count clear nums unnums inLimits total cut join
-tries-edited = refl
+pub tries_edited : map (λ (t : Try). edit_of 48 (0x06 ∷ 0x28 ∷ 0x06 ∷ 0x01 ∷ 0x00 ∷ 0x00 ∷ []) t.list t.item t.what t.room) tries ≡ map (λ (t : Try). t.gives) tries
+unfolding tries edit_of edit_in afresh with_room listed is_item field_of known paper_of cat048 change put_in alone blank_at set_item set_flag len_of settle read_frame write_frame body indicator all_zero row first_flag next_flags uncons slots item chain fx_of beside subfields is_one slots_of line cells number to_num of_num to_signed of_signed limit widths count clear nums unnums in_limits total cut join
+tries_edited = refl
 
 -- ---- 02, Ask 5: copies of `06 28 06 01 00 00`, of a field of category 21 with its first and its last item, and of one of category 7. Room is asked of the
 -- copy, a spare place of the list has no effect, and with all withheld `02 00` is left
@@ -196,7 +196,7 @@ visits =
     ∷ []
 
 pub visits-copied : map (λ (v : Visit). copy_of v.cat v.field v.withheld v.room) visits ≡ map (λ (v : Visit). v.gives) visits
-unfolding visits copy_of copyIn without withRoom listed field_of known paperOf cat048 cat021 cat007 blankAt setItem setFlag len_of settle readFrame writeFrame body indicator allZero row firstFlag nextFlags uncons slots item chain fxOf beside subfields isOne slots_of line cells number toNum ofNum to_signed ofSigned limit widths count clear nums unnums inLimits total cut join
+unfolding visits copy_of copy_in without with_room listed field_of known paper_of cat048 cat021 cat007 blank_at set_item set_flag len_of settle read_frame write_frame body indicator all_zero row first_flag next_flags uncons slots item chain fx_of beside subfields is_one slots_of line cells number to_num of_num to_signed of_signed limit widths count clear nums unnums in_limits total cut join
 visits-copied = refl
 
 -- ---- "Angles: 1 gives 21, 16,384 gives 351,563, -16,384 gives -351,563, 4,194,304 gives 90,000,000" (01); "so 16,384 leaves -16,384" (02, Ask 7). A number,
@@ -216,9 +216,9 @@ angles =
     ∷ (pos 8_388_607, pos 179_999_979, negsuc 14_996)
     ∷ []
 
-pub angles-exact : map {B = ℤ × ℤ} (λ (a : ℤ × ℤ × ℤ). (udegOf a.0, left_of a.0)) angles ≡ map {B = ℤ × ℤ} (λ (a : ℤ × ℤ × ℤ). (a.1, a.2)) angles
-unfolding angles udegOf left_of rounded
-angles-exact = refl
+pub angles_exact : map {B = ℤ × ℤ} (λ (a : ℤ × ℤ × ℤ). (udeg_of a.0, left_of a.0)) angles ≡ map {B = ℤ × ℤ} (λ (a : ℤ × ℤ × ℤ). (a.1, a.2)) angles
+unfolding angles udeg_of left_of rounded
+angles_exact = refl
 
 -- ---- 02, Ask 1: "BPS 0 means 800 hPa or less, and 4,095 means 1209.5 hPa or more". A number, a setting in tenths of hPa, and whether the one can stand for the
 -- other, at each end and beside it
@@ -245,6 +245,6 @@ settings =
     ∷ record { number = pos 4_095; tenths = pos 12_096; among = true }
     ∷ []
 
-pub settings-stand : map (λ (s : Setting). stands s.number s.tenths) settings ≡ map (λ (s : Setting). s.among) settings
-unfolding settings stands eqZ
-settings-stand = refl
+pub settings_stand : map (λ (s : Setting). stands s.number s.tenths) settings ≡ map (λ (s : Setting). s.among) settings
+unfolding settings stands eq_int
+settings_stand = refl

@@ -16,4 +16,3 @@ pub mod Sheet
 pub mod Rebuilding
 pub mod Sheets
 pub mod Edges
-pub mod Laws

@@ -6,8 +6,8 @@ use Rattle.layout.specs.declared.Answer.{Answer}
 use Rattle.layout.specs.declared.Answer.TheVariants.{Accepted, Refused}
 
 -- 11 is given for an "output slice shorter than the result"
-unfoldable pub withRoom : ℕ → List ℕ → Outcome (List ℕ)
-withRoom room b = pick (leb (length b) room) (accepted b) (refused 11 0)
+unfoldable pub with_room : ℕ → List ℕ → Outcome (List ℕ)
+with_room room b = pick (leb (length b) room) (accepted b) (refused 11 0)
 
 -- "On every refusal by any operation .. the length answered is 0" (Answer.lengthOf)
 unfoldable pub answer_of : Outcome (List ℕ) → Answer

@@ -4,21 +4,21 @@ use Prim.Native.String.{String}
 use Rattle.codec.specs.Signed.{to_signed}
 use Rattle.codec.specs.Radix.{total, cut, join}
 use Rattle.codec.specs.Codec.{number}
-use Rattle.codec.specs.Line.{toNum, limit, widths, count, clear, nums, inLimits, cells, line}
-use Rattle.codec.specs.Item.{slots, slots_of, lines_of, beside, chain, isOne, subfields, item}
-use Rattle.codec.specs.Field.{firstFlag, nextFlags, uncons, row, allZero, indicator, body}
+use Rattle.codec.specs.Line.{to_num, limit, widths, count, clear, nums, in_limits, cells, line}
+use Rattle.codec.specs.Item.{slots, slots_of, lines_of, beside, chain, is_one, subfields, item}
+use Rattle.codec.specs.Field.{first_flag, next_flags, uncons, row, all_zero, indicator, body}
 use Rattle.codec.specs.Meaning.{len_of}
-use Rattle.codec.specs.Frame.{settle, readFrame}
+use Rattle.codec.specs.Frame.{settle, read_frame}
 use Rattle.papers.specs.Cat048.{cat048}
 use Rattle.papers.specs.Cat021.{cat021}
 use Rattle.papers.specs.Cat007.{cat007}
 use Rattle.papers.specs.Names.{text, names048, names021, names007, names_of}
-use Rattle.papers.specs.Papers.{known, paperOf}
-use Rattle.scope.specs.Angle.{rounded, udegOf, left_of}
-use Rattle.scope.specs.Pressure.{eqZ, senseOf}
+use Rattle.papers.specs.Papers.{known, paper_of}
+use Rattle.scope.specs.Angle.{rounded, udeg_of, left_of}
+use Rattle.scope.specs.Pressure.{eq_int, sense_of}
 use Rattle.scope.specs.Reading.{field_of}
 use Rattle.scope.specs.Sheet as sheet
-use Rattle.scope.specs.Sheet.{digitsOf, decimal, signedDecimal, numberText, numbersText, partsThere, subfieldsThere, linesThere, linesText, chainText, itemText, rowText, itemsText, refusalText, fieldText, sheetOf}
+use Rattle.scope.specs.Sheet.{digits_of, decimal, signed_decimal, number_text, numbers_text, parts_there, subfields_there, lines_there, lines_text, chain_text, item_text, row_text, items_text, refusal_text, field_text, sheet_of}
 
 -- the category octet and the field, and the text
 pub record Printed : Type 0 where
@@ -83,6 +83,6 @@ printed =
     }
     ∷ []
 
-pub sheets-printed : map (λ (p : Printed). sheetOf p.input) printed ≡ map (λ (p : Printed). text p.lines) printed
-unfolding printed sheetOf fieldText refusalText rowText itemsText itemText chainText linesText linesThere partsThere subfieldsThere numbersText numberText signedDecimal decimal digitsOf sheet.keyLine udegOf left_of rounded senseOf eqZ names_of names048 names021 names007 lines_of field_of known paperOf cat048 cat021 cat007 len_of settle readFrame body indicator allZero row firstFlag nextFlags uncons slots item chain beside subfields isOne slots_of line cells number toNum to_signed limit widths count clear nums inLimits total cut join
-sheets-printed = refl
+pub sheets_printed : map (λ (p : Printed). sheet_of p.input) printed ≡ map (λ (p : Printed). text p.lines) printed
+unfolding printed sheet_of field_text refusal_text row_text items_text item_text chain_text lines_text lines_there parts_there subfields_there numbers_text number_text signed_decimal decimal digits_of sheet.key_line udeg_of left_of rounded sense_of eq_int names_of names048 names021 names007 lines_of field_of known paper_of cat048 cat021 cat007 len_of settle read_frame body indicator all_zero row first_flag next_flags uncons slots item chain beside subfields is_one slots_of line cells number to_num to_signed limit widths count clear nums in_limits total cut join
+sheets_printed = refl

@@ -2,7 +2,7 @@
 // Promises: `shape_at` says what the papers' data say; past the table stands an item of one empty line.
 // Stands on papers, and on lengths for the numbers of the lines.
 ghost use Rattle.std.specs.Prelude.{◌≡◌, ◌<◌};
-ghost use Rattle.codec.specs.Laws.Arms.{Past};
+ghost use Rattle.codec.proofs.Laws.Arms.{Past};
 ghost use Rattle.shapes.specs.Shapes.{shapes, shape_at};
 
 // The first line of an item, the parts of its chain, 0 for one subfield without a chain, and its subfields.

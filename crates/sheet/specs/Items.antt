@@ -3,7 +3,7 @@ use Rattle.std.specs.Prelude.{◌≡◌, List, [], ◌∷◌, ◌++◌, ℕ, ◌
 use Rattle.codec.specs.Item.{slots}
 use Rattle.papers.specs.Names.{Named, names048, names021, names007}
 use Rattle.layout.specs.Laws.Slots.{Holds}
-use Rattle.scope.specs.Sheet.{itemText}
+use Rattle.scope.specs.Sheet.{item_text}
 use Rattle.shapes.specs.Shapes.{item_at}
 use Rattle.text.specs.Typing.{Types}
 
@@ -22,4 +22,4 @@ named_at k = get_or named k nobody
 -- ---- what the code of an item promises, and its arms: an item with a line for its chain, and one without
 
 abbrev pub ItemTyped : ℕ → ℕ → List ℤ → ℕ → List ℕ → ℕ → List ℕ → ℕ → Type 0
-ItemTyped k n ns base l at m next = (zs : List ℤ) → Holds ns base zs → length zs ≡ slots (item_at k) → Types (itemText (item_at k) (named_at k) (n, zs)) l at m next
+ItemTyped k n ns base l at m next = (zs : List ℤ) → Holds ns base zs → length zs ≡ slots (item_at k) → Types (item_text (item_at k) (named_at k) (n, zs)) l at m next

@@ -3,12 +3,12 @@
 use Rattle.std.specs.Prelude.{Bool, ◌&&◌, List, [], ◌∷◌, ◌++◌, ℕ, suc, ◌+◌, ltb, eqb, ℤ}
 use Rattle.codec.specs.Pick.{pick}
 use Rattle.papers.specs.Names.{text, Key, hidden, shown, angle, pressure}
-use Rattle.layout.specs.Record.{numberAt}
-use Rattle.scope.specs.Sheet.{numberText}
+use Rattle.layout.specs.Record.{number_at}
+use Rattle.scope.specs.Sheet.{number_text}
 
 -- `:` to `@` are marks; letters, figures, `.` and `#` are not
-unfoldable pub markIs : ℕ → Bool
-markIs m = ltb 57 m && ltb m 65
+unfoldable pub mark_is : ℕ → Bool
+mark_is m = ltb 57 m && ltb m 65
 
 -- `@` a position, `>` an altitude, `?` a pressure, `:` a flag that is not listed; any other mark one number
 unfoldable pub meant : ℕ → List ℕ → List Key
@@ -18,14 +18,14 @@ meant m w =
     (pick (eqb m 63) (pressure w ∷ []) (pick (eqb m 58) (hidden ∷ []) (shown w ∷ []))))
 
 -- how many numbers they are
-unfoldable pub slotsIn : ℕ → ℕ
-slotsIn m = pick (eqb m 64) 2 (pick (eqb m 62) 2 1)
+unfoldable pub slots_in : ℕ → ℕ
+slots_in m = pick (eqb m 64) 2 (pick (eqb m 62) 2 1)
 
 -- the keys of a group, w being the word so far
-unfoldable pub keysFrom : List ℕ → List ℕ → List Key
-unfolding markIs meant
-keysFrom w [] = []
-keysFrom w (x ∷ xs) = pick (markIs x) (meant x w ++ keysFrom [] xs) (keysFrom (w ++ (x ∷ [])) xs)
+unfoldable pub keys_from : List ℕ → List ℕ → List Key
+unfolding mark_is meant
+keys_from w [] = []
+keys_from w (x ∷ xs) = pick (mark_is x) (meant x w ++ keys_from [] xs) (keys_from (w ++ (x ∷ [])) xs)
 
 -- the octets of the first group, with its space
 unfoldable pub span : List ℕ → ℕ
@@ -34,6 +34,6 @@ span (x ∷ xs) = suc (pick (eqb x 32) 0 (span xs))
 
 -- the text of the numbers from a slot on, one for each key
 unfoldable pub keyed : List Key → List ℤ → ℕ → List ℕ
-unfolding numberText numberAt
+unfolding number_text number_at
 keyed [] ns slot = []
-keyed (k ∷ ks) ns slot = numberText k (numberAt ns slot) ++ keyed ks ns (slot + 1)
+keyed (k ∷ ks) ns slot = number_text k (number_at ns slot) ++ keyed ks ns (slot + 1)

@@ -1,10 +1,10 @@
 // The items of a field: the lines of an item that are there, with the keys of their numbers.
 // Promises: `named` types the text of an item, of those that some paper has. Stands on lengths and shapes for the lines of an item, and on its numbers.
 ghost use Rattle.std.specs.Prelude.{◌≡◌, ◌++◌, ◌+◌, ◌-◌, ◌≤◌, ◌<◌, length};
-ghost use Rattle.scope.specs.Sheet.{keyLine, decimal};
+ghost use Rattle.scope.specs.Sheet.{key_line, decimal};
 ghost use Rattle.text.specs.Typing.{Types};
 ghost use Rattle.sheet.specs.Keys.{span};
-ghost use Rattle.sheet.specs.Lines.{isThere, lineKeyed, linesKeyed, itemKeyed};
+ghost use Rattle.sheet.specs.Lines.{is_there, line_keyed, lines_keyed, item_keyed};
 ghost use Rattle.sheet.specs.Items.{ItemTyped};
 
 use crate::numbers;
@@ -27,7 +27,7 @@ fn span(keys: &[u8]) -> usize
 // Whether line b is there: a chain part if the count reaches it, a subfield if its flag is 1.
 fn is_there(numbers: &Numbers, count: usize, b: usize, parts: usize, base: usize) -> bool
     requires { base ≤ 255 }
-    ensures { result ≡ isThere numbers.now count b parts base }
+    ensures { result ≡ is_there numbers.now count b parts base }
 {
     if parts == 0 {
         let format = lengths::format_of(b);
@@ -48,7 +48,7 @@ fn line(
     buf: &mut [u8; 4096],
 ) -> usize
     requires { (base ≤ 255) × (length keys.now ≤ 1000) }
-    ensures { Types (lineKeyed keys.now numbers.now count b parts base) buf.old at buf.new result }
+    ensures { Types (line_keyed keys.now numbers.now count b parts base) buf.old at buf.new result }
 {
     if is_there(numbers, count, b, parts, base) {
         let format = lengths::format_of(b);
@@ -70,7 +70,7 @@ fn lines(
     buf: &mut [u8; 4096],
 ) -> usize
     requires { (base ≤ 255) × (b + left ≤ 300) × (length keys.now ≤ 1000) }
-    ensures { Types (linesKeyed keys.now numbers.now count b parts left base) buf.old at buf.new result }
+    ensures { Types (lines_keyed keys.now numbers.now count b parts left base) buf.old at buf.new result }
 {
     if left == 0 {
         return at;
@@ -101,7 +101,7 @@ fn item(
     buf: &mut [u8; 4096],
 ) -> usize
     requires { (base ≤ 255) × (length keys.now ≤ 1000) }
-    ensures { Types (itemKeyed keys.now numbers.now count k base) buf.old at buf.new result }
+    ensures { Types (item_keyed keys.now numbers.now count k base) buf.old at buf.new result }
 {
     let shape = shapes::shape_at(k);
     let b = shape.0;
@@ -134,7 +134,7 @@ fn chained(
     buf: &mut [u8; 4096],
 ) -> usize
     requires { (base ≤ 255) × (length keys.now ≤ 1000) }
-    ensures { Types (keyLine key.now (decimal count) ++ itemKeyed keys.now numbers.now count k base) buf.old at buf.new result }
+    ensures { Types (key_line key.now (decimal count) ++ item_keyed keys.now numbers.now count k base) buf.old at buf.new result }
 {
     let next = text::pair(key, count as u64, at, &mut *buf);
     item(keys, count, k, numbers, base, next, &mut *buf)

@@ -5,12 +5,12 @@ ghost use Rattle.std.specs.Prelude.{◌≡◌, true, ◌∷◌, ◌+◌, ◌≤�
 ghost use Rattle.codec.specs.Field.{flags};
 ghost use Rattle.papers.specs.Names.{text};
 ghost use Rattle.papers.specs.Papers.{known};
-ghost use Rattle.scope.specs.Sheet.{decimal, keyLine, rowText, itemsText, refusalText, sheetOf, Listed};
-ghost use Rattle.spots.specs.Spots.{spotOk, row_ok, itemsFrom, heldFrom};
+ghost use Rattle.scope.specs.Sheet.{decimal, key_line, row_text, items_text, refusal_text, sheet_of, Listed};
+ghost use Rattle.spots.specs.Spots.{spot_ok, row_ok, items_from, held_from};
 ghost use Rattle.text.specs.Typing.{Types};
 ghost use Rattle.sheet.specs.Items.{named_at};
-ghost use Rattle.sheet.specs.Rows.{namesFrom, placeText, commaOf};
-ghost use Rattle.sheet.specs.Whole.{recordText};
+ghost use Rattle.sheet.specs.Rows.{names_from, place_text, comma_of};
+ghost use Rattle.sheet.specs.Whole.{record_text};
 ghost use Rattle.papers.specs.Papers.{SLOTS};
 
 mod items;
@@ -27,8 +27,8 @@ fn place(
     at: usize,
     buf: &mut [u8; 4096],
 ) -> usize
-    requires { T (spotOk k) × (length numbers.now ≡ SLOTS) }
-    ensures { Types (placeText k there count numbers.now) buf.old at buf.new result }
+    requires { T (spot_ok k) × (length numbers.now ≡ SLOTS) }
+    ensures { Types (place_text k there count numbers.now) buf.old at buf.new result }
 {
     if there {
         let spot = spots::spot_at(k);
@@ -56,7 +56,7 @@ fn row(
     buf: &mut [u8; 4096],
 ) -> usize
     requires { (k + left ≤ 200) × (i + left ≤ 8) × T (row_ok k left) × (length numbers.now ≡ SLOTS) }
-    ensures { Types (rowText (drop i (flags items)) (itemsFrom k left) (namesFrom k left) (heldFrom k left i parts.now numbers.now)) buf.old at buf.new result }
+    ensures { Types (row_text (drop i (flags items)) (items_from k left) (names_from k left) (held_from k left i parts.now numbers.now)) buf.old at buf.new result }
 {
     if left == 0 {
         return at;
@@ -77,7 +77,7 @@ fn row(
 
 // A comma before each name but the first.
 fn comma(first: bool, at: usize, buf: &mut [u8; 4096]) -> usize
-    ensures { Types (commaOf first) buf.old at buf.new result }
+    ensures { Types (comma_of first) buf.old at buf.new result }
 {
     if first {
         return at;
@@ -119,7 +119,7 @@ fn names(
     buf: &mut [u8; 4096],
 ) -> usize
     requires { (k + left ≤ 200) × (i + left ≤ 8) }
-    ensures { Types (itemsText (commaOf first) (drop i (flags items)) (namesFrom k left)) buf.old at buf.new result }
+    ensures { Types (items_text (comma_of first) (drop i (flags items)) (names_from k left)) buf.old at buf.new result }
 {
     if left == 0 {
         return at;
@@ -135,7 +135,7 @@ fn names(
 
 // The lines of a refusal.
 fn refusal(no: u8, place: usize, at: usize, buf: &mut [u8; 4096]) -> usize
-    ensures { Types (refusalText no place) buf.old at buf.new result }
+    ensures { Types (refusal_text no place) buf.old at buf.new result }
 {
     let next = text::pair(b"refused", no as u64, at, &mut *buf);
     text::pair(b"at", place as u64, next, &mut *buf)
@@ -144,7 +144,7 @@ fn refusal(no: u8, place: usize, at: usize, buf: &mut [u8; 4096]) -> usize
 // The lines of a record that was read from len octets.
 fn accepted(kept: Record, len: usize, at: usize, buf: &mut [u8; 4096]) -> usize
     requires { (known kept.cat ≡ true) × (length kept.numbers ≡ SLOTS) }
-    ensures { Types (recordText kept len) buf.old at buf.new result }
+    ensures { Types (record_text kept len) buf.old at buf.new result }
 {
     let first = spots::spot_of(kept.cat);
     let n = layout::items_of(kept.cat);
@@ -159,14 +159,14 @@ fn accepted(kept: Record, len: usize, at: usize, buf: &mut [u8; 4096]) -> usize
 }
 
 fn category(cat: u8, at: usize, buf: &mut [u8; 4096]) -> usize
-    ensures { Types (keyLine (text "cat") (decimal cat)) buf.old at buf.new result }
+    ensures { Types (key_line (text "cat") (decimal cat)) buf.old at buf.new result }
 {
     text::pair(b"cat", cat as u64, at, &mut *buf)
 }
 
 // The sheet of a category and a field, from the start of a buffer on; the place behind it.
 pub fn listed(cat: u8, field: &[u8], buf: &mut [u8; 4096]) -> usize
-    ensures { Types (sheetOf (cat ∷ field.now)) buf.old 0 buf.new result }
+    ensures { Types (sheet_of (cat ∷ field.now)) buf.old 0 buf.new result }
 {
     let next = category(cat, 0, &mut *buf);
     let reading = reader::read(cat, field);
@@ -182,7 +182,7 @@ pub fn listed(cat: u8, field: &[u8], buf: &mut [u8; 4096]) -> usize
 
 // The sheet of an input, which has one without an octet too.
 fn typed(input: &[u8], buf: &mut [u8; 4096]) -> usize
-    ensures { Types (sheetOf input.now) buf.old 0 buf.new result }
+    ensures { Types (sheet_of input.now) buf.old 0 buf.new result }
 {
     if input.len() == 0 {
         let next = text::word(b"cat=none\n", 0, &mut *buf);

@@ -2,10 +2,10 @@
 // Promises: `group` types the text of the numbers that stand in the slots, one for each key of the group. Stands on layout, position, pressure and text.
 ghost use Rattle.std.specs.Prelude.{◌≡◌, ◌++◌, ◌+◌, ◌-◌, ◌*◌, ◌≤◌, length, take, drop};
 ghost use Rattle.papers.specs.Names.{shown, pressure, text};
-ghost use Rattle.layout.specs.Record.{numberAt};
-ghost use Rattle.scope.specs.Sheet.{keyLine, signedDecimal, numberText};
+ghost use Rattle.layout.specs.Record.{number_at};
+ghost use Rattle.scope.specs.Sheet.{key_line, signed_decimal, number_text};
 ghost use Rattle.text.specs.Typing.{Types};
-ghost use Rattle.sheet.specs.Keys.{markIs, meant, slotsIn, keysFrom, keyed};
+ghost use Rattle.sheet.specs.Keys.{mark_is, meant, slots_in, keys_from, keyed};
 
 use layout::Numbers;
 use position::Position;
@@ -25,7 +25,7 @@ pub struct Offset {
 
 fn position_at(numbers: &Numbers, slot: usize) -> Position
     requires { slot ≤ 5000 }
-    ensures { (result.lat ≡ numberAt numbers.now slot) × (result.lon ≡ numberAt numbers.now (slot + 1)) }
+    ensures { (result.lat ≡ number_at numbers.now slot) × (result.lon ≡ number_at numbers.now (slot + 1)) }
 {
     let lat = layout::number_at(numbers, slot);
     let lon = layout::number_at(numbers, slot + 1);
@@ -34,7 +34,7 @@ fn position_at(numbers: &Numbers, slot: usize) -> Position
 
 fn altitude_at(numbers: &Numbers, slot: usize) -> Altitude
     requires { slot ≤ 5000 }
-    ensures { (result.res ≡ numberAt numbers.now slot) × (result.ga ≡ numberAt numbers.now (slot + 1)) }
+    ensures { (result.res ≡ number_at numbers.now slot) × (result.ga ≡ number_at numbers.now (slot + 1)) }
 {
     let res = layout::number_at(numbers, slot);
     let ga = layout::number_at(numbers, slot + 1);
@@ -42,7 +42,7 @@ fn altitude_at(numbers: &Numbers, slot: usize) -> Altitude
 }
 
 fn offset_at(numbers: &Numbers, slot: usize) -> Offset
-    ensures { result.tos ≡ numberAt numbers.now slot }
+    ensures { result.tos ≡ number_at numbers.now slot }
 {
     let tos = layout::number_at(numbers, slot);
     Offset { tos: tos }
@@ -50,20 +50,20 @@ fn offset_at(numbers: &Numbers, slot: usize) -> Offset
 
 // A line whose key is a name and a further name.
 fn number(name: &[u8], more: &[u8], n: i32, at: usize, buf: &mut [u8; 4096]) -> usize
-    ensures { Types (keyLine (name.now ++ more.now) (signedDecimal n)) buf.old at buf.new result }
+    ensures { Types (key_line (name.now ++ more.now) (signed_decimal n)) buf.old at buf.new result }
 {
     let behind = text::word(name, at, &mut *buf);
     text::signed_pair(more, n as i64, behind, &mut *buf)
 }
 
 fn alone(name: &[u8], n: i32, at: usize, buf: &mut [u8; 4096]) -> usize
-    ensures { Types (numberText (shown name.now) n) buf.old at buf.new result }
+    ensures { Types (number_text (shown name.now) n) buf.old at buf.new result }
 {
     number(name, b"", n, at, &mut *buf)
 }
 
 fn altitude_lines(name: &[u8], a: Altitude, at: usize, buf: &mut [u8; 4096]) -> usize
-    ensures { Types (numberText (shown (name.now ++ text ".RES")) a.res ++ numberText (shown (name.now ++ text ".GA")) a.ga) buf.old at buf.new result }
+    ensures { Types (number_text (shown (name.now ++ text ".RES")) a.res ++ number_text (shown (name.now ++ text ".GA")) a.ga) buf.old at buf.new result }
 {
     let next = number(name, b".RES", a.res, at, &mut *buf);
     number(name, b".GA", a.ga, next, &mut *buf)
@@ -71,7 +71,7 @@ fn altitude_lines(name: &[u8], a: Altitude, at: usize, buf: &mut [u8; 4096]) -> 
 
 // A barometric setting, and the pressure that it stands for.
 fn pressure_lines(name: &[u8], n: i32, at: usize, buf: &mut [u8; 4096]) -> usize
-    ensures { Types (numberText (pressure name.now) n) buf.old at buf.new result }
+    ensures { Types (number_text (pressure name.now) n) buf.old at buf.new result }
 {
     let next = alone(name, n, at, &mut *buf);
     pressure::lines(name, n, next, &mut *buf)
@@ -104,7 +104,7 @@ fn marked(
 
 // How many slots a marked word takes.
 fn slots_of(mark: u8) -> usize
-    ensures { result ≡ slotsIn mark }
+    ensures { result ≡ slots_in mark }
 {
     match mark {
         b'@' => 2,
@@ -114,7 +114,7 @@ fn slots_of(mark: u8) -> usize
 }
 
 fn is_mark(o: u8) -> bool
-    ensures { result ≡ markIs o }
+    ensures { result ≡ mark_is o }
 {
     if 57 < o {
         return o < 65;
@@ -133,7 +133,7 @@ pub fn group(
     buf: &mut [u8; 4096],
 ) -> usize
     requires { (from ≤ i) × (i ≤ length keys.now) × (length keys.now ≤ 1000) × (slot ≤ 1000 + 2 * i) }
-    ensures { Types (keyed (keysFrom (take (i - from) (drop from keys.now)) (drop i keys.now)) numbers.now slot) buf.old at buf.new result }
+    ensures { Types (keyed (keys_from (take (i - from) (drop from keys.now)) (drop i keys.now)) numbers.now slot) buf.old at buf.new result }
 {
     if keys.len() <= i {
         return at;

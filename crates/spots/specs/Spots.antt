@@ -8,19 +8,19 @@ use Rattle.layout.specs.Record.{regroup}
 use Rattle.spots.specs.declared.Spot.{Spot}
 use Rattle.shapes.specs.Shapes.{item_at}
 
-unfoldable pub spotsFrom : ℕ → List ℕ → List Spot
-spotsFrom slot [] = []
-spotsFrom slot (k ∷ ks) = (k, slot) ∷ spotsFrom (slot + slots (item_at k)) ks
+unfoldable pub spots_from : ℕ → List ℕ → List Spot
+spots_from slot [] = []
+spots_from slot (k ∷ ks) = (k, slot) ∷ spots_from (slot + slots (item_at k)) ks
 
 unfoldable pub spots : List Spot
-unfolding spotsFrom
+unfolding spots_from
 spots =
-    spotsFrom 0 (0 ∷ 1 ∷ 2 ∷ 3 ∷ 4 ∷ [])
-    ++ (spotsFrom 0 (5 ∷ 6 ∷ 7 ∷ 8 ∷ 9 ∷ 10 ∷ 11 ∷ 12 ∷ []) ++ spotsFrom 0 (13 ∷ 1 ∷ 2 ∷ 3 ∷ 4 ∷ []))
+    spots_from 0 (0 ∷ 1 ∷ 2 ∷ 3 ∷ 4 ∷ [])
+    ++ (spots_from 0 (5 ∷ 6 ∷ 7 ∷ 8 ∷ 9 ∷ 10 ∷ 11 ∷ 12 ∷ []) ++ spots_from 0 (13 ∷ 1 ∷ 2 ∷ 3 ∷ 4 ∷ []))
 
-unfoldable pub spotAt : ℕ → Spot
+unfoldable pub spot_at : ℕ → Spot
 unfolding spots
-spotAt k = get_or spots k (0, 0)
+spot_at k = get_or spots k (0, 0)
 
 -- a category's first spot
 unfoldable pub spot_of : ℕ → ℕ
@@ -29,29 +29,29 @@ spot_of cat = pick (eqb cat 48) 0 (pick (eqb cat 21) 5 13)
 -- ---- rows
 
 -- the item at a spot of the table
-abbrev pub itemOn : ℕ → Item
-itemOn k = item_at (spotAt k).0
+abbrev pub item_on : ℕ → Item
+item_on k = item_at (spot_at k).0
 
 -- its slots are slots of the record
-unfoldable pub spotOk : ℕ → Bool
-spotOk k = leb ((spotAt k).1 + slots (itemOn k)) SLOTS
+unfoldable pub spot_ok : ℕ → Bool
+spot_ok k = leb ((spot_at k).1 + slots (item_on k)) SLOTS
 
 -- and so for n spots, the slots of each beginning where those of the one before end
 unfoldable pub row_ok : ℕ → ℕ → Bool
 row_ok k zero = true
-row_ok k (suc zero) = spotOk k
-row_ok k (suc (suc n)) = spotOk k && (eqb (spotAt (k + 1)).1 ((spotAt k).1 + slots (itemOn k)) && row_ok (k + 1) (suc n))
+row_ok k (suc zero) = spot_ok k
+row_ok k (suc (suc n)) = spot_ok k && (eqb (spot_at (k + 1)).1 ((spot_at k).1 + slots (item_on k)) && row_ok (k + 1) (suc n))
 
 -- n items from spot k on
-unfoldable pub itemsFrom : ℕ → ℕ → List Item
-itemsFrom k zero = []
-itemsFrom k (suc n) = itemOn k ∷ itemsFrom (k + 1) n
+unfoldable pub items_from : ℕ → ℕ → List Item
+items_from k zero = []
+items_from k (suc n) = item_on k ∷ items_from (k + 1) n
 
 -- the numbers of the item at a spot, among the slots of a record
-unfoldable pub numbersOn : ℕ → List ℤ → List ℤ
-numbersOn k ns = take (slots (itemOn k)) (drop (spotAt k).1 ns)
+unfoldable pub numbers_on : ℕ → List ℤ → List ℤ
+numbers_on k ns = take (slots (item_on k)) (drop (spot_at k).1 ns)
 
 -- what left items from spot k on hold, the first of them having index i
-unfoldable pub heldFrom : ℕ → ℕ → ℕ → List ℕ → List ℤ → List Held
-unfolding itemsFrom regroup
-heldFrom k left i ps ns = regroup (itemsFrom k left) (drop i ps) (drop (spotAt k).1 ns)
+unfoldable pub held_from : ℕ → ℕ → ℕ → List ℕ → List ℤ → List Held
+unfolding items_from regroup
+held_from k left i ps ns = regroup (items_from k left) (drop i ps) (drop (spot_at k).1 ns)

@@ -2,8 +2,8 @@
 // Promises: `spot_at` and `spot_of` say what the papers' data say; past the table stands the first spot.
 // Stands on papers, and on shapes for the numbers of the items.
 ghost use Rattle.std.specs.Prelude.{◌≡◌, ◌<◌};
-ghost use Rattle.codec.specs.Laws.Arms.{Past};
-ghost use Rattle.spots.specs.Spots.{spots, spotAt, spot_of};
+ghost use Rattle.codec.proofs.Laws.Arms.{Past};
+ghost use Rattle.spots.specs.Spots.{spots, spot_at, spot_of};
 
 use layout::{Cat021, Cat048};
 
@@ -45,20 +45,20 @@ fn table_of_spots() -> [Spot; 18]
 
 fn spot_in(t: [Spot; 18], i: usize, k: usize) -> Spot
     requires { (t ≡ spots) × (i ≡ k) × (i < 18) }
-    ensures { result ≡ spotAt k }
+    ensures { result ≡ spot_at k }
 {
     t[i]
 }
 
 fn no_spot(k: usize) -> Spot
     requires { Past 18 k }
-    ensures { result ≡ spotAt k }
+    ensures { result ≡ spot_at k }
 {
     Spot(0, 0)
 }
 
 pub fn spot_at(k: usize) -> Spot
-    ensures { result ≡ spotAt k }
+    ensures { result ≡ spot_at k }
 {
     let t = table_of_spots();
     match k {

@@ -2,27 +2,27 @@
 use Rattle.std.specs.Prelude.{List, ℕ, ltb, take}
 use Rattle.codec.specs.Pick.{pick}
 use Rattle.papers.specs.Names.{text}
-use Rattle.papers.specs.Papers.{paperOf}
+use Rattle.papers.specs.Papers.{paper_of}
 use Rattle.layout.specs.declared.Record.{Record}
 use Rattle.layout.specs.Record.{flatten}
-use Rattle.guess.specs.Lines.{behindOctet, behindFeed}
-use Rattle.guess.specs.Guess.{boundedIn, categoryIn, guessOf}
+use Rattle.guess.specs.Lines.{behind_octet, behind_feed}
+use Rattle.guess.specs.Guess.{bounded_in, category_in, guess_of}
 
 -- the parts of a chain of at most so many: from their line, where there is one
 
 unfoldable pub parts_in : ℕ → List ℕ → ℕ
-unfolding boundedIn
-parts_in most t = pick (ltb most 2) most (boundedIn 1 most t)
+unfolding bounded_in
+parts_in most t = pick (ltb most 2) most (bounded_in 1 most t)
 
-unfoldable pub behindParts : ℕ → List ℕ → List ℕ
-unfolding behindOctet
-behindParts most t = pick (ltb most 2) t (behindFeed t)
+unfoldable pub behind_parts : ℕ → List ℕ → List ℕ
+unfolding behind_octet
+behind_parts most t = pick (ltb most 2) t (behind_feed t)
 
 -- the comma before a name, of so many octets: none before the first
-abbrev pub commaIn : ℕ → List ℕ
-commaIn n = take n (text ",")
+abbrev pub comma_in : ℕ → List ℕ
+comma_in n = take n (text ",")
 
 -- the record of the guess
-unfoldable pub recordIn : List ℕ → Record
-unfolding flatten categoryIn guessOf
-recordIn t = flatten (categoryIn t) (paperOf (categoryIn t)) (guessOf t)
+unfoldable pub record_in : List ℕ → Record
+unfolding flatten category_in guess_of
+record_in t = flatten (category_in t) (paper_of (category_in t)) (guess_of t)

@@ -4,47 +4,47 @@ use Rattle.codec.specs.Item.{Item, chained, single}
 use Rattle.papers.specs.Names.{Key, hidden, shown, angle, pressure, Named}
 use Rattle.lengths.specs.Lines.{items}
 use Rattle.sheet.specs.Items.{named}
-use Rattle.guess.specs.Guess.{linesFor, head_of}
+use Rattle.guess.specs.Guess.{lines_for, head_of}
 
 -- ---- the groups of keys, one for each chain part and subfield
 
-unfoldable pub groupsIn : List Named → List (List Key)
-groupsIn [] = []
-groupsIn (nm ∷ nms) = nm.keys ++ groupsIn nms
+unfoldable pub groups_in : List Named → List (List Key)
+groups_in [] = []
+groups_in (nm ∷ nms) = nm.keys ++ groups_in nms
 
 unfoldable pub groups : List (List Key)
-unfolding groupsIn named
-groups = groupsIn named
+unfolding groups_in named
+groups = groups_in named
 
 -- the numbers of a group have as many lines each as the first; a flag that is not listed is never taken from a text
 unfoldable pub step_of : List Key → ℕ
-unfolding linesFor
+unfolding lines_for
 step_of [] = 1
 step_of (hidden ∷ ks) = 1
-step_of (shown k ∷ ks) = linesFor (shown k)
-step_of (angle k ∷ ks) = linesFor (angle k)
-step_of (pressure k ∷ ks) = linesFor (pressure k)
+step_of (shown k ∷ ks) = lines_for (shown k)
+step_of (angle k ∷ ks) = lines_for (angle k)
+step_of (pressure k ∷ ks) = lines_for (pressure k)
 
-unfoldable pub stepAt : ℕ → ℕ
+unfoldable pub step_at : ℕ → ℕ
 unfolding groups step_of
-stepAt b = step_of (get_or groups b [])
+step_at b = step_of (get_or groups b [])
 
 -- ---- a subfield is there if the text begins with its first key; what is no subfield has none to begin with
 
-unfoldable pub lineHeads : Item → Named → List (List ℕ)
-lineHeads (chained p qs ss) nm = replicate (length (p ∷ qs)) [] ++ map head_of (drop (length (p ∷ qs)) nm.keys)
-lineHeads (single l) nm = [] ∷ []
+unfoldable pub line_heads : Item → Named → List (List ℕ)
+line_heads (chained p qs ss) nm = replicate (length (p ∷ qs)) [] ++ map head_of (drop (length (p ∷ qs)) nm.keys)
+line_heads (single l) nm = [] ∷ []
 
-unfoldable pub headsIn : List Item → List Named → List (List ℕ)
-unfolding lineHeads
-headsIn [] nms = []
-headsIn (it ∷ its) [] = []
-headsIn (it ∷ its) (nm ∷ nms) = lineHeads it nm ++ headsIn its nms
+unfoldable pub heads_in : List Item → List Named → List (List ℕ)
+unfolding line_heads
+heads_in [] nms = []
+heads_in (it ∷ its) [] = []
+heads_in (it ∷ its) (nm ∷ nms) = line_heads it nm ++ heads_in its nms
 
 unfoldable pub heads : List (List ℕ)
-unfolding headsIn items named
-heads = headsIn items named
+unfolding heads_in items named
+heads = heads_in items named
 
-unfoldable pub headAt : ℕ → List ℕ
+unfoldable pub head_at : ℕ → List ℕ
 unfolding heads
-headAt b = get_or heads b []
+head_at b = get_or heads b []

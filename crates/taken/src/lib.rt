@@ -8,17 +8,17 @@ ghost use Rattle.codec.specs.Item.{slots_of, slots};
 ghost use Rattle.codec.specs.Field.{flags};
 ghost use Rattle.codec.specs.Radix.{join, ones};
 ghost use Rattle.papers.specs.Papers.{SLOTS};
-ghost use Rattle.layout.specs.Record.{allParts, allNumbers};
-ghost use Rattle.lengths.specs.Lines.{first_at, countAt, kind_of, piecesFrom};
+ghost use Rattle.layout.specs.Record.{all_parts, all_numbers};
+ghost use Rattle.lengths.specs.Lines.{first_at, count_at, kind_of, pieces_from};
 ghost use Rattle.shapes.specs.Shapes.{item_at, lines_from, in_turn};
-ghost use Rattle.spots.specs.Spots.{spotAt, row_ok, itemsFrom};
+ghost use Rattle.spots.specs.Spots.{spot_at, row_ok, items_from};
 ghost use Rattle.sheet.specs.Items.{named_at};
-ghost use Rattle.sheet.specs.Rows.{namesFrom};
-ghost use Rattle.walk.specs.Ranges.{endsRight};
-ghost use Rattle.guess.specs.Guess.{pieceIn, itemIn, itemLeft, row_in, namesIn, categoryIn};
-ghost use Rattle.taken.specs.Tables.{stepAt};
-ghost use Rattle.taken.specs.Lines.{takenBy, behindBy, endsOf, takenAt, behindAt, thereAt, takenFrom, leftFrom, flagsFrom};
-ghost use Rattle.taken.specs.Items.{parts_in, behindParts, commaIn, recordIn};
+ghost use Rattle.sheet.specs.Rows.{names_from};
+ghost use Rattle.walk.specs.Ranges.{ends_right};
+ghost use Rattle.guess.specs.Guess.{piece_in, item_in, item_left, row_in, names_in, category_in};
+ghost use Rattle.taken.specs.Tables.{step_at};
+ghost use Rattle.taken.specs.Lines.{taken_by, behind_by, ends_of, taken_at, behind_at, there_at, taken_from, left_from, flags_from};
+ghost use Rattle.taken.specs.Items.{parts_in, behind_parts, comma_in, record_in};
 
 use layout::{Numbers, Record, SLOTS};
 
@@ -26,7 +26,7 @@ use layout::{Numbers, Record, SLOTS};
 
 // How many lines of a text each number of line b has, those derived from it with it.
 fn step_of(b: usize) -> usize
-    ensures { result ≡ stepAt b }
+    ensures { result ≡ step_at b }
 {
     match b {
         3 => 3, // MD5.POS
@@ -46,8 +46,8 @@ fn top(w: u64) -> i32
 
 // The number of one piece, from the first line of a text; 0 where the line says none that it can have.
 fn piece(t: &[u8], kind: u64, w: u64) -> i32
-    requires { (w ≤ 24) × T (endsRight (kind_of kind) w) }
-    ensures { result ≡ pieceIn (kind_of kind) w t.now }
+    requires { (w ≤ 24) × T (ends_right (kind_of kind) w) }
+    ensures { result ≡ piece_in (kind_of kind) w t.now }
 {
     if kind < 2 {
         return walk::ranged(t, 0, top(w));
@@ -78,9 +78,9 @@ fn numbers<'a>(
     slot: usize,
     out: &mut Numbers,
 ) -> &'a [u8]
-    requires { (slot + count (piecesFrom left code) ≤ SLOTS) × T (endsOf (piecesFrom left code)) }
-    ensures behind { result.now ≡ behindBy step (piecesFrom left code) t.now }
-    ensures kept { out.new ≡ sets out.old slot (takenBy step (piecesFrom left code) t.now) }
+    requires { (slot + count (pieces_from left code) ≤ SLOTS) × T (ends_of (pieces_from left code)) }
+    ensures behind { result.now ≡ behind_by step (pieces_from left code) t.now }
+    ensures kept { out.new ≡ sets out.old slot (taken_by step (pieces_from left code) t.now) }
 {
     if left == 0 {
         return t;
@@ -102,9 +102,9 @@ fn numbers<'a>(
 
 // Line b, a chain part or a subfield, into its slots, those of its item beginning at base; what follows its lines.
 fn line<'a>(t: &'a [u8], b: usize, base: usize, out: &mut Numbers) -> &'a [u8]
-    requires { base + (first_at b + countAt b) ≤ SLOTS }
-    ensures behind { result.now ≡ behindAt b t.now }
-    ensures kept { out.new ≡ sets out.old (base + first_at b) (takenAt b t.now) }
+    requires { base + (first_at b + count_at b) ≤ SLOTS }
+    ensures behind { result.now ≡ behind_at b t.now }
+    ensures kept { out.new ≡ sets out.old (base + first_at b) (taken_at b t.now) }
 {
     let format = lengths::format_of(b);
     numbers(
@@ -122,7 +122,7 @@ fn line<'a>(t: &'a [u8], b: usize, base: usize, out: &mut Numbers) -> &'a [u8]
 // Whether line b is there, n of the parts, or of the flags of subfields, being left. A subfield is, if the text begins with its first key; a part or an item
 // without a chain has no word here.
 fn is_there(t: &[u8], b: usize, n: usize) -> bool
-    ensures { result ≡ thereAt b n t.now }
+    ensures { result ≡ there_at b n t.now }
 {
     if n == 0 {
         return false;
@@ -142,8 +142,8 @@ fn lines<'a>(
     out: &mut Numbers,
 ) -> &'a [u8]
     requires { (b + left ≤ 300) × T (in_turn b left) × ((left ≡ 0 → ⊥) → base + (first_at b + slots_of (lines_from b left)) ≤ SLOTS) }
-    ensures behind { result.now ≡ leftFrom b left n t.now }
-    ensures kept { out.new ≡ sets out.old (base + first_at b) (takenFrom b left n t.now) }
+    ensures behind { result.now ≡ left_from b left n t.now }
+    ensures kept { out.new ≡ sets out.old (base + first_at b) (taken_from b left n t.now) }
 {
     if left == 0 {
         return t;
@@ -158,7 +158,7 @@ fn lines<'a>(
 
 // What follows line b, whose numbers are not kept.
 fn passed<'a>(t: &'a [u8], b: usize) -> &'a [u8]
-    ensures { result.now ≡ behindAt b t.now }
+    ensures { result.now ≡ behind_at b t.now }
 {
     let mut spent = [0i32; SLOTS];
     line(t, b, 0, &mut spent)
@@ -167,7 +167,7 @@ fn passed<'a>(t: &'a [u8], b: usize) -> &'a [u8]
 // The flags of the left subfields from line b on, into the slots from one on.
 fn flags(t: &[u8], b: usize, left: usize, n: usize, slot: usize, out: &mut Numbers)
     requires { (b + left ≤ 300) × (slot + left ≤ SLOTS) }
-    ensures { out.new ≡ sets out.old slot (flagsFrom b left n t.now) }
+    ensures { out.new ≡ sets out.old slot (flags_from b left n t.now) }
 {
     if left == 0 {
         return;
@@ -196,7 +196,7 @@ fn parts(t: &[u8], most: usize) -> usize
 }
 
 fn behind_parts<'a>(t: &'a [u8], most: usize) -> &'a [u8]
-    ensures { result.now ≡ behindParts most t.now }
+    ensures { result.now ≡ behind_parts most t.now }
 {
     if most < 2 {
         return t;
@@ -214,7 +214,7 @@ fn first_of(b: usize) -> usize
 
 // The parts of item k of those that some paper has; 0 without a chain.
 fn count(t: &[u8], k: usize) -> u8
-    ensures { result ≡ (itemIn (item_at k) (named_at k) t.now).0 }
+    ensures { result ≡ (item_in (item_at k) (named_at k) t.now).0 }
 {
     let shape = shapes::shape_at(k);
     leaves::octet(parts(t, shape.1))
@@ -223,8 +223,8 @@ fn count(t: &[u8], k: usize) -> u8
 // The numbers of item k into the slots from base on; what follows its lines.
 fn item<'a>(t: &'a [u8], k: usize, base: usize, out: &mut Numbers) -> &'a [u8]
     requires { base + slots (item_at k) ≤ SLOTS }
-    ensures behind { result.now ≡ itemLeft (item_at k) (named_at k) t.now }
-    ensures kept { out.new ≡ sets out.old base (itemIn (item_at k) (named_at k) t.now).1 }
+    ensures behind { result.now ≡ item_left (item_at k) (named_at k) t.now }
+    ensures kept { out.new ≡ sets out.old base (item_in (item_at k) (named_at k) t.now).1 }
 {
     let shape = shapes::shape_at(k);
     let b = shape.0;
@@ -254,8 +254,8 @@ fn put_part(parts: &mut [u8; 8], i: usize, p: u8)
 // The left items from spot k on, the first of them having index i: from no text those that are not there.
 fn row(t: &[u8], items: u8, k: usize, i: usize, left: usize, parts: &mut [u8; 8], out: &mut Numbers)
     requires { (k + left ≤ 200) × (i + left ≤ 8) × T (row_ok k left) }
-    ensures counts { parts.new ≡ sets parts.old i (allParts (row_in (drop i (flags items)) (itemsFrom k left) (namesFrom k left) t.now)) }
-    ensures kept { out.new ≡ sets out.old (spotAt k).1 (allNumbers (row_in (drop i (flags items)) (itemsFrom k left) (namesFrom k left) t.now)) }
+    ensures counts { parts.new ≡ sets parts.old i (all_parts (row_in (drop i (flags items)) (items_from k left) (names_from k left) t.now)) }
+    ensures kept { out.new ≡ sets out.old (spot_at k).1 (all_numbers (row_in (drop i (flags items)) (items_from k left) (names_from k left) t.now)) }
 {
     if left == 0 {
         return;
@@ -278,7 +278,7 @@ fn row(t: &[u8], items: u8, k: usize, i: usize, left: usize, parts: &mut [u8; 8]
 // a comma, of so many octets, before it.
 fn names(w: &[u8], comma: usize, k: usize, i: usize, left: usize, items: u8) -> u8
     requires { (k + left ≤ 200) × (i + left ≤ 8) }
-    ensures { result ≡ join ones (sets (flags items) i (namesIn (commaIn comma) (namesFrom k left) w.now)) }
+    ensures { result ≡ join ones (sets (flags items) i (names_in (comma_in comma) (names_from k left) w.now)) }
 {
     if left == 0 {
         return items;
@@ -313,7 +313,7 @@ fn names(w: &[u8], comma: usize, k: usize, i: usize, left: usize, items: u8) -> 
 
 // The category of the first line; 48 where it has none.
 fn category(t: &[u8]) -> u8
-    ensures { result ≡ categoryIn t.now }
+    ensures { result ≡ category_in t.now }
 {
     let first = walk::line(t);
     if compare::opens(b"cat=21", first) {
@@ -327,7 +327,7 @@ fn category(t: &[u8]) -> u8
 
 // The record that a text tells.
 pub fn record(text: &[u8]) -> Record
-    ensures { result ≡ recordIn text.now }
+    ensures { result ≡ record_in text.now }
 {
     let cat = category(text);
     let first = spots::spot_of(cat);

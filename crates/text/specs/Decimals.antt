@@ -3,15 +3,15 @@ use Rattle.std.specs.Prelude.{Bool, ◌&&◌, List, [], ◌∷◌, ℕ, ◌+◌,
 
 -- ---- the number that digits say, the last one last
 
-unfoldable pub valueFrom : ℕ → List ℕ → ℕ
-valueFrom v [] = v
-valueFrom v (o ∷ os) = valueFrom (v * 10 + (o - 48)) os
+unfoldable pub value_from : ℕ → List ℕ → ℕ
+value_from v [] = v
+value_from v (o ∷ os) = value_from (v * 10 + (o - 48)) os
 
 unfoldable pub value_of : List ℕ → ℕ
-unfolding valueFrom
-value_of os = valueFrom 0 os
+unfolding value_from
+value_of os = value_from 0 os
 
 -- ---- digits only: 48 is 0, 57 is 9
 
-unfoldable pub isDigit : ℕ → Bool
-isDigit o = ltb 47 o && ltb o 58
+unfoldable pub is_digit : ℕ → Bool
+is_digit o = ltb 47 o && ltb o 58

@@ -6,16 +6,16 @@ use Rattle.codec.specs.Pick.{pick}
 unfoldable pub capital : ℕ → ℕ
 capital d = pick (ltb d 10) (48 + d) (55 + d)
 
-unfoldable pub pairText : ℕ → List ℕ
+unfoldable pub pair_text : ℕ → List ℕ
 unfolding capital
-pairText o = capital (o / 16) ∷ capital (o % 16) ∷ []
+pair_text o = capital (o / 16) ∷ capital (o % 16) ∷ []
 
-unfoldable pub pairsText : List ℕ → List ℕ
-unfolding pairText
-pairsText [] = []
-pairsText (o ∷ os) = pairText o ++ pairsText os
+unfoldable pub pairs_text : List ℕ → List ℕ
+unfolding pair_text
+pairs_text [] = []
+pairs_text (o ∷ os) = pair_text o ++ pairs_text os
 
-unfoldable pub hexText : List ℕ → List ℕ
-unfolding pairsText
-hexText [] = 45 ∷ []
-hexText (o ∷ os) = pairsText (o ∷ os)
+unfoldable pub hex_text : List ℕ → List ℕ
+unfolding pairs_text
+hex_text [] = 45 ∷ []
+hex_text (o ∷ os) = pairs_text (o ∷ os)

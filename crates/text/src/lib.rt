@@ -2,9 +2,9 @@
 // Promises: every octet of the buffer and the place, numbers in decimal as 01 has them, octets in hex digits; what has no room is left out, so that no caller has to count.
 // Stands on scope's definition of the sheet.
 ghost use Rattle.std.specs.Prelude.{◌≡◌, [], ◌∷◌, ◌+◌, ◌%◌, ◌<◌};
-ghost use Rattle.scope.specs.Sheet.{digitsOf, decimal, signedDecimal, keyLine};
+ghost use Rattle.scope.specs.Sheet.{digits_of, decimal, signed_decimal, key_line};
 ghost use Rattle.text.specs.Typing.{Types};
-ghost use Rattle.text.specs.Hex.{capital, pairText, hexText};
+ghost use Rattle.text.specs.Hex.{capital, pair_text, hex_text};
 
 // One octet. Where there is no room, nothing is put and the place stays.
 pub fn octet(o: u8, at: usize, buf: &mut [u8; 4096]) -> usize
@@ -39,7 +39,7 @@ fn digit(n: u64) -> u8
 
 // At most so many digits of a number: the digits of its tenth come before the last one.
 fn digits(n: u64, most: usize, at: usize, buf: &mut [u8; 4096]) -> usize
-    ensures { Types (digitsOf most n) buf.old at buf.new result }
+    ensures { Types (digits_of most n) buf.old at buf.new result }
 {
     if most == 0 {
         return at;
@@ -60,7 +60,7 @@ pub fn decimal(n: u64, at: usize, buf: &mut [u8; 4096]) -> usize
 
 // A number in decimal, behind a sign if it is below 0. The complement of such a number is one less than its magnitude, and fits for every number.
 pub fn signed(z: i64, at: usize, buf: &mut [u8; 4096]) -> usize
-    ensures { Types (signedDecimal z) buf.old at buf.new result }
+    ensures { Types (signed_decimal z) buf.old at buf.new result }
 {
     if z < 0 {
         let next = octet(b'-', at, &mut *buf);
@@ -82,7 +82,7 @@ fn hex_digit(d: u8) -> u8
 
 // An octet as two hex digits.
 fn hex_pair(o: u8, at: usize, buf: &mut [u8; 4096]) -> usize
-    ensures { Types (pairText o) buf.old at buf.new result }
+    ensures { Types (pair_text o) buf.old at buf.new result }
 {
     let next = octet(hex_digit(o / 16), at, &mut *buf);
     octet(hex_digit(o % 16), next, &mut *buf)
@@ -90,7 +90,7 @@ fn hex_pair(o: u8, at: usize, buf: &mut [u8; 4096]) -> usize
 
 // Octets as pairs of hex digits; a `-` where there are none, so that a word always stands there.
 pub fn octets(s: &[u8], at: usize, buf: &mut [u8; 4096]) -> usize
-    ensures { Types (hexText s.now) buf.old at buf.new result }
+    ensures { Types (hex_text s.now) buf.old at buf.new result }
 {
     if s.len() == 0 {
         return octet(b'-', at, &mut *buf);
@@ -113,7 +113,7 @@ pub fn line_end(at: usize, buf: &mut [u8; 4096]) -> usize
 
 // A line with a key and a number.
 pub fn pair(key: &[u8], n: u64, at: usize, buf: &mut [u8; 4096]) -> usize
-    ensures { Types (keyLine key.now (decimal n)) buf.old at buf.new result }
+    ensures { Types (key_line key.now (decimal n)) buf.old at buf.new result }
 {
     let sign = word(key, at, &mut *buf);
     let value = octet(b'=', sign, &mut *buf);
@@ -123,7 +123,7 @@ pub fn pair(key: &[u8], n: u64, at: usize, buf: &mut [u8; 4096]) -> usize
 
 // A line with a key and a number that may be below 0.
 pub fn signed_pair(key: &[u8], z: i64, at: usize, buf: &mut [u8; 4096]) -> usize
-    ensures { Types (keyLine key.now (signedDecimal z)) buf.old at buf.new result }
+    ensures { Types (key_line key.now (signed_decimal z)) buf.old at buf.new result }
 {
     let sign = word(key, at, &mut *buf);
     let value = octet(b'=', sign, &mut *buf);
@@ -133,7 +133,7 @@ pub fn signed_pair(key: &[u8], z: i64, at: usize, buf: &mut [u8; 4096]) -> usize
 
 // A line with a key and a word.
 pub fn word_pair(key: &[u8], value: &[u8], at: usize, buf: &mut [u8; 4096]) -> usize
-    ensures { Types (keyLine key.now value.now) buf.old at buf.new result }
+    ensures { Types (key_line key.now value.now) buf.old at buf.new result }
 {
     let sign = word(key, at, &mut *buf);
     let start = octet(b'=', sign, &mut *buf);

@@ -8,20 +8,20 @@ use Rattle.layout.specs.declared.Answer.{Answer}
 use Rattle.layout.specs.declared.Answer.TheVariants.{Accepted, Refused}
 use Rattle.layout.specs.Answer.{length_of}
 use Rattle.scope.specs.Outputs.{answer_of}
-use Rattle.scope.specs.Rebuilding.{octetsGiven}
-use Rattle.scope.specs.Sheet.{keyLine, decimal}
-use Rattle.guess.specs.Guess.{rebuildOf}
+use Rattle.scope.specs.Rebuilding.{octets_given}
+use Rattle.scope.specs.Sheet.{key_line, decimal}
+use Rattle.guess.specs.Guess.{rebuild_of}
 
 abbrev pub ROOM : ℕ
 ROOM = suc LONGEST
 
 pub record Unlists (t : List ℕ) (a : Answer) (out : List ℕ) : Type 0 where
-  pub answer : a ≡ answer_of (octetsGiven (rebuildOf t LONGEST))
+  pub answer : a ≡ answer_of (octets_given (rebuild_of t LONGEST))
   pub roomy : (k : ℕ) → a ≡ Refused 11 k → ⊥
-  pub octets : (cat : ℕ) (b : List ℕ) → rebuildOf t LONGEST ≡ accepted (cat, b) → take (suc (length b)) out ≡ cat ∷ b
+  pub octets : (cat : ℕ) (b : List ℕ) → rebuild_of t LONGEST ≡ accepted (cat, b) → take (suc (length b)) out ≡ cat ∷ b
   pub few : length_of a ≤ LONGEST
   pub within : length_of a < length out
 
-unfoldable pub refusalLines : Answer → List ℕ
-refusalLines (Accepted n) = []
-refusalLines (Refused n k) = keyLine (text "refused") (decimal n) ++ keyLine (text "line") (decimal k)
+unfoldable pub refusal_lines : Answer → List ℕ
+refusal_lines (Accepted n) = []
+refusal_lines (Refused n k) = key_line (text "refused") (decimal n) ++ key_line (text "line") (decimal k)

@@ -5,7 +5,7 @@
 // nothing can promise. Stands on rebuild, on text for the refusal, and on inputs for what is read.
 ghost use Rattle.std.specs.Prelude.{◌≡◌, length};
 ghost use Rattle.text.specs.Typing.{Types};
-ghost use Rattle.unlisting.specs.Unlists.{ROOM, Unlists, refusalLines};
+ghost use Rattle.unlisting.specs.Unlists.{ROOM, Unlists, refusal_lines};
 
 use inputs::Input;
 use layout::{Answer, LONGEST};
@@ -48,7 +48,7 @@ fn unlisted(text: &[u8], output: &mut [u8]) -> Answer
 
 // The two lines of a refusal into the front of an array; the place behind them.
 fn refusal(answer: Answer, lines: &mut [u8; 4096]) -> usize
-    ensures { Types (refusalLines answer) lines.old 0 lines.new result }
+    ensures { Types (refusal_lines answer) lines.old 0 lines.new result }
 {
     match answer {
         Answer::Accepted(_) => 0,

@@ -5,7 +5,7 @@ use Rattle.layout.specs.declared.Which.TheVariants.{Neither, Base, Correction}
 use Rattle.layout.specs.declared.Choice.{Choice}
 
 -- the correction's view where it shows something, else the base's
-unfoldable pub chosenView : View → View → Choice
-chosenView b (Shown a m) = record { which = Correction; view = Shown a m }
-chosenView (Shown a m) (Hidden e p) = record { which = Base; view = Shown a m }
-chosenView (Hidden n q) (Hidden e p) = record { which = Neither; view = Hidden n q }
+unfoldable pub chosen_view : View → View → Choice
+chosen_view b (Shown a m) = record { which = Correction; view = Shown a m }
+chosen_view (Shown a m) (Hidden e p) = record { which = Base; view = Shown a m }
+chosen_view (Hidden n q) (Hidden e p) = record { which = Neither; view = Hidden n q }

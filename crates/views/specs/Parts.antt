@@ -12,12 +12,12 @@ part_at p (Shown a m) = (p.0, a + p.1)
 part_at p (Hidden e q) = p
 
 -- in the field that a choice names; for neither, at the base
-unfoldable pub sideAt : ℕ × ℕ → ℕ × ℕ → Which → View → ℕ × ℕ
+unfoldable pub side_at : ℕ × ℕ → ℕ × ℕ → Which → View → ℕ × ℕ
 unfolding part_at
-sideAt b c Neither v = b
-sideAt b c Base v = part_at b v
-sideAt b c Correction v = part_at c v
+side_at b c Neither v = b
+side_at b c Base v = part_at b v
+side_at b c Correction v = part_at c v
 
-unfoldable pub chosenAt : ℕ × ℕ → ℕ × ℕ → Choice → ℕ × ℕ
-unfolding sideAt
-chosenAt b c x = sideAt b c x.which x.view
+unfoldable pub chosen_at : ℕ × ℕ → ℕ × ℕ → Choice → ℕ × ℕ
+unfolding side_at
+chosen_at b c x = side_at b c x.which x.view

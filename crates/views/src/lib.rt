@@ -2,17 +2,17 @@
 // Promises: the answers and the parts are those that 01 defines, for every input. Stands on reader, which it knows by its contracts.
 ghost use Rattle.std.specs.Prelude.{◌≡◌, ℕ, ◌+◌, ◌-◌, ◌≤◌, ◌<◌, length};
 ghost use Rattle.layout.specs.declared.View.TheVariants.{Shown};
-ghost use Rattle.scope.specs.Views.{view_of, part_of, chooseOf, chosen_of};
-ghost use Rattle.views.specs.Standing.{Rising, standsAt, asView};
-ghost use Rattle.views.specs.Choosing.{chosenView};
-ghost use Rattle.views.specs.Parts.{part_at, chosenAt};
+ghost use Rattle.scope.specs.Views.{view_of, part_of, choose_of, chosen_of};
+ghost use Rattle.views.specs.Standing.{Rising, stands_at, as_view};
+ghost use Rattle.views.specs.Choosing.{chosen_view};
+ghost use Rattle.views.specs.Parts.{part_at, chosen_at};
 
 use layout::{Answer, Choice, View, Which};
 
 // Where an item of a category stands in an accepted field, by its indicator and where each item begins.
 fn standing(cat: u8, items: u8, starts: [u8; 9], item: u8) -> View
     requires { Rising cat starts }
-    ensures { result ≡ standsAt cat items starts item }
+    ensures { result ≡ stands_at cat items starts item }
 {
     if layout::is_item(cat, item) {
         let i = leaves::wide(item);
@@ -28,7 +28,7 @@ fn standing(cat: u8, items: u8, starts: [u8; 9], item: u8) -> View
 
 // A field as a view of itself: all of it, or its refusal unchanged.
 fn as_view(a: Answer) -> View
-    ensures { result ≡ asView a }
+    ensures { result ≡ as_view a }
 {
     match a {
         Answer::Accepted(n) => View::Shown(0, n),
@@ -71,7 +71,7 @@ pub fn view<'a>(cat: u8, field: &'a [u8], item: u8) -> &'a [u8]
 
 // The view of an item in the correction where it is there, else in the base.
 fn chosen(base: View, correction: View) -> Choice
-    ensures { result ≡ chosenView base correction }
+    ensures { result ≡ chosen_view base correction }
 {
     if let View::Shown(_, _) = correction {
         return Choice {
@@ -93,7 +93,7 @@ fn chosen(base: View, correction: View) -> Choice
 
 // Where the item stands in the correction, or else in the base; or the refusal, and which field it is of.
 pub fn choose_answer(cat: u8, base: &[u8], correction: &[u8], item: u8) -> Choice
-    ensures { result ≡ chooseOf cat base.now correction.now item }
+    ensures { result ≡ choose_of cat base.now correction.now item }
 {
     if layout::is_known(cat) {
         let b = reader::survey(cat, base);
@@ -126,8 +126,8 @@ pub fn choose_answer(cat: u8, base: &[u8], correction: &[u8], item: u8) -> Choic
 
 // The item's part of the correction where it is there, else of the base; the empty part where nothing can be shown.
 pub fn choose<'a>(cat: u8, base: &'a [u8], correction: &'a [u8], item: u8) -> &'a [u8]
-    ensures result_value { result.now ≡ chosen_of base.now correction.now (chooseOf cat base.now correction.now item) }
-    ensures ref_ptr_value { result.ref_ptr ≡ chosenAt base.entry.ref_ptr correction.entry.ref_ptr (chooseOf cat base.now correction.now item) }
+    ensures result_value { result.now ≡ chosen_of base.now correction.now (choose_of cat base.now correction.now item) }
+    ensures ref_ptr_value { result.ref_ptr ≡ chosen_at base.entry.ref_ptr correction.entry.ref_ptr (choose_of cat base.now correction.now item) }
 {
     let c = choose_answer(cat, base, correction, item);
     let v = c.view;

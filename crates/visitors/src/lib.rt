@@ -4,14 +4,14 @@
 // Stands on desk, reader and outputs, which it knows by their contracts.
 ghost use Rattle.std.specs.Prelude.{◌≡◌};
 ghost use Rattle.scope.specs.Visitors.{Copied};
-ghost use Rattle.visitors.specs.Passing.{passedOf};
+ghost use Rattle.visitors.specs.Passing.{passed_of};
 
 use layout::Answer;
 
 // The field in front of an array, without an item that is there and withheld. The desk refuses nothing: the field was accepted, the list has every place,
 // and the array has room for every LEN.
 fn passed(cat: u8, kept: [u8; 255], withheld: u8, item: u8) -> [u8; 255]
-    ensures { result ≡ passedOf cat kept withheld item }
+    ensures { result ≡ passed_of cat kept withheld item }
 {
     let i = flags::index(item);
     if flags::present(withheld, i) {

@@ -8,11 +8,11 @@ place_in x [] = 0
 place_in x (o ∷ s) = pick (eqb o x) 0 (suc (place_in x s))
 
 -- the words of a text, one space between two
-unfoldable pub firstLonger : ℕ → List (List ℕ) → List (List ℕ)
-firstLonger o [] = []
-firstLonger o (w ∷ ws) = (o ∷ w) ∷ ws
+unfoldable pub first_longer : ℕ → List (List ℕ) → List (List ℕ)
+first_longer o [] = []
+first_longer o (w ∷ ws) = (o ∷ w) ∷ ws
 
 unfoldable pub words_in : List ℕ → List (List ℕ)
-unfolding firstLonger
+unfolding first_longer
 words_in [] = [] ∷ []
-words_in (o ∷ t) = pick (eqb o 32) ([] ∷ words_in t) (firstLonger o (words_in t))
+words_in (o ∷ t) = pick (eqb o 32) ([] ∷ words_in t) (first_longer o (words_in t))

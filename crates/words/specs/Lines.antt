@@ -3,11 +3,11 @@ use Rattle.std.specs.Prelude.{List, [], ◌∷◌, ℕ, suc, eqb, take}
 use Rattle.codec.specs.Pick.{pick}
 
 -- the octets before the first space; 32 is the space
-unfoldable pub wordLength : List ℕ → ℕ
-wordLength [] = 0
-wordLength (o ∷ os) = pick (eqb o 32) 0 (suc (wordLength os))
+unfoldable pub word_length : List ℕ → ℕ
+word_length [] = 0
+word_length (o ∷ os) = pick (eqb o 32) 0 (suc (word_length os))
 
 -- the word in front
 unfoldable pub word_of : List ℕ → List ℕ
-unfolding wordLength
-word_of s = take (wordLength s) s
+unfolding word_length
+word_of s = take (word_length s) s

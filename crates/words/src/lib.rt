@@ -2,15 +2,15 @@
 // Promises: for every line the word that starts at a place; for every word the number that it writes, and whether it writes one; the number taken is the number written.
 // Stands on text, which says what a decimal means.
 ghost use Rattle.std.specs.Prelude.{◌≡◌, ◌+◌, ◌-◌, ◌*◌, ◌<◌, ◌≤◌, drop};
-ghost use Rattle.text.specs.Decimals.{isDigit};
-ghost use Rattle.words.specs.Lines.{wordLength, word_of};
-ghost use Rattle.words.specs.Numbers.{leads, number_in, below, signedIn, valueIn, wholeIn};
+ghost use Rattle.text.specs.Decimals.{is_digit};
+ghost use Rattle.words.specs.Lines.{word_length, word_of};
+ghost use Rattle.words.specs.Numbers.{leads, number_in, below, signed_in, value_in, whole_in};
 
 // ---- words
 
 // The place of the first space from a place on, or the end of the line.
 fn end(line: &[u8], at: usize) -> usize
-    ensures { result ≡ at + wordLength (drop at line.now) }
+    ensures { result ≡ at + word_length (drop at line.now) }
 {
     let mut i = at;
     while i < line.len() {
@@ -36,7 +36,7 @@ pub fn word_at<'a>(line: &'a [u8], at: usize) -> &'a [u8]
 // ---- numbers
 
 fn is_digit(o: u8) -> bool
-    ensures { result ≡ isDigit o }
+    ensures { result ≡ is_digit o }
 {
     if o < b'0' {
         return false;
@@ -103,7 +103,7 @@ fn below(magnitude: u64) -> i64
 
 // The signed number of 32 bits that a word writes, a `-` in front of one below 0; 2,147,483,648 where it writes none. `-0` is none.
 pub fn signed(word: &[u8]) -> i64
-    ensures { result ≡ signedIn word.now }
+    ensures { result ≡ signed_in word.now }
 {
     if word.len() == 0 {
         return 2147483648;
@@ -117,7 +117,7 @@ pub fn signed(word: &[u8]) -> i64
 // ---- the value of a word of a kind, 0 where it is not of it
 
 pub fn small(word: &[u8]) -> u8
-    ensures { result ≡ valueIn 255 word.now }
+    ensures { result ≡ value_in 255 word.now }
 {
     let n = number(word, 255);
     if 255 < n {
@@ -127,7 +127,7 @@ pub fn small(word: &[u8]) -> u8
 }
 
 pub fn room(word: &[u8]) -> usize
-    ensures { result ≡ valueIn 300 word.now }
+    ensures { result ≡ value_in 300 word.now }
 {
     let n = number(word, 300);
     if 300 < n {
@@ -137,7 +137,7 @@ pub fn room(word: &[u8]) -> usize
 }
 
 pub fn whole(word: &[u8]) -> i32
-    ensures { result ≡ wholeIn word.now }
+    ensures { result ≡ whole_in word.now }
 {
     let z = signed(word);
     if 2147483647 < z {

@@ -6,5 +6,5 @@ use Rattle.codec.specs.Line.{count}
 -- ---- the ways out of `chain`
 
 -- a further part follows: some are left, and the count says so
-unfoldable pub goesOn : ℕ → ℕ → Bool
-goesOn count left = pick (eqb left 0) false (ltb 1 count)
+unfoldable pub goes_on : ℕ → ℕ → Bool
+goes_on count left = pick (eqb left 0) false (ltb 1 count)

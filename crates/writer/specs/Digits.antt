@@ -2,7 +2,7 @@
 use Rattle.std.specs.Prelude.{List, [], ◌∷◌, ℕ, ◌+◌, ◌-◌, ◌^◌, ◌%◌, ℤ, pos, negsuc}
 use Rattle.codec.specs.Radix.{join}
 use Rattle.codec.specs.Line.{Piece, spare, num, widths}
-use Rattle.layout.specs.Record.{numberAt}
+use Rattle.layout.specs.Record.{number_at}
 
 -- ---- one number
 
@@ -13,13 +13,13 @@ low_bits w (negsuc n) = (2 ^ w - 1) - n % 2 ^ w
 
 -- ---- the digits of the pieces, 0 for a spare
 
-unfoldable pub digitsAt : List Piece → List ℤ → ℕ → List ℕ
-unfolding low_bits numberAt
-digitsAt [] l slot = []
-digitsAt (spare w ∷ ps) l slot = 0 ∷ digitsAt ps l slot
-digitsAt (num k w ∷ ps) l slot = low_bits w (numberAt l slot) ∷ digitsAt ps l (slot + 1)
+unfoldable pub digits_at : List Piece → List ℤ → ℕ → List ℕ
+unfolding low_bits number_at
+digits_at [] l slot = []
+digits_at (spare w ∷ ps) l slot = 0 ∷ digits_at ps l slot
+digits_at (num k w ∷ ps) l slot = low_bits w (number_at l slot) ∷ digits_at ps l (slot + 1)
 
 -- as one number
 unfoldable pub gathered : List Piece → List ℤ → ℕ → ℕ
-unfolding digitsAt
-gathered ps l slot = join (widths ps) (digitsAt ps l slot)
+unfolding digits_at
+gathered ps l slot = join (widths ps) (digits_at ps l slot)

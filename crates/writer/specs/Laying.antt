@@ -1,7 +1,7 @@
 -- Octets laid into an array by place: what the code of each level promises, and how one goes behind another.
 use Rattle.std.specs.Prelude.{List, ℕ, ◌+◌, ◌≤◌, T, length}
 use Rattle.codec.specs.Codec.{Codec}
-use Rattle.codec.specs.Laws.Sets.{Put}
+use Rattle.codec.proofs.Laws.Sets.{Put}
 use Rattle.papers.specs.Papers.{LONGEST}
 
 -- what laying a value promises: where the codec can write it and there is room, its octets are put

@@ -8,13 +8,13 @@ ghost use Rattle.codec.specs.Item.{nothing, flagged, chain, subfields, item};
 ghost use Rattle.codec.specs.Field.{flags, row};
 ghost use Rattle.papers.specs.Papers.{known};
 ghost use Rattle.layout.specs.Laws.Slots.{Holds};
-ghost use Rattle.lengths.specs.Lines.{line_at, first_at, countAt};
-ghost use Rattle.shapes.specs.Shapes.{item_at, lines_from, flagsUnder, in_turn};
-ghost use Rattle.spots.specs.Spots.{spotOk, row_ok, itemsFrom, numbersOn, heldFrom};
+ghost use Rattle.lengths.specs.Lines.{line_at, first_at, count_at};
+ghost use Rattle.shapes.specs.Shapes.{item_at, lines_from, flags_under, in_turn};
+ghost use Rattle.spots.specs.Spots.{spot_ok, row_ok, items_from, numbers_on, held_from};
 ghost use Rattle.scope.specs.Writing.{Wrote};
 ghost use Rattle.writer.specs.Laying.{Lays};
-ghost use Rattle.writer.specs.Chains.{goesOn};
-ghost use Rattle.writer.specs.Rows.{placeOn};
+ghost use Rattle.writer.specs.Chains.{goes_on};
+ghost use Rattle.writer.specs.Rows.{place_on};
 ghost use Rattle.writer.specs.Same.{Tells};
 ghost use Rattle.writer.specs.Checked.{Checked, ReadBack};
 ghost use Rattle.writer.specs.Frames.{made, Laid};
@@ -26,7 +26,7 @@ use layout::{Answer, Field, LONGEST, Numbers, Record};
 
 // Whether a further part of a chain follows: some are defined, and the count of parts says so.
 fn goes_on(count: u8, left: usize) -> bool
-    ensures { result ≡ goesOn count left }
+    ensures { result ≡ goes_on count left }
 {
     if left == 0 {
         return false;
@@ -65,7 +65,7 @@ fn chain(
 // Subfield b, if the chain says that it is there.
 fn subfield(numbers: &Numbers, b: usize, base: usize, at: usize, octets: &mut Field) -> usize
     requires { base ≤ 255 }
-    ensures { (zs us : List ℤ) → Holds numbers.now base zs → T (ltb (line_at b).flag (length zs)) → Holds numbers.now (base + first_at b) us → Lays (opt (nothing (countAt b)) (flagged zs (line_at b)) (line (line_at b))) (0, us) octets.old at octets.new result }
+    ensures { (zs us : List ℤ) → Holds numbers.now base zs → T (ltb (line_at b).flag (length zs)) → Holds numbers.now (base + first_at b) us → Lays (opt (nothing (count_at b)) (flagged zs (line_at b)) (line (line_at b))) (0, us) octets.old at octets.new result }
 {
     let format = lengths::format_of(b);
     let z = layout::number_at(numbers, base + format.flag);
@@ -85,7 +85,7 @@ fn subfields(
     octets: &mut Field,
 ) -> usize
     requires { (b + left ≤ 300) × (base ≤ 255) × T (in_turn b left) }
-    ensures { (zs us : List ℤ) → Holds numbers.now base zs → T (flagsUnder (length zs) (lines_from b left)) → ((left ≡ 0 → ⊥) → Holds numbers.now (base + first_at b) us) → Lays (subfields zs (lines_from b left)) (0, us) octets.old at octets.new result }
+    ensures { (zs us : List ℤ) → Holds numbers.now base zs → T (flags_under (length zs) (lines_from b left)) → ((left ≡ 0 → ⊥) → Holds numbers.now (base + first_at b) us) → Lays (subfields zs (lines_from b left)) (0, us) octets.old at octets.new result }
 {
     if left == 0 {
         return at;
@@ -118,8 +118,8 @@ fn place(
     at: usize,
     octets: &mut Field,
 ) -> usize
-    requires { T (spotOk k) }
-    ensures { Lays (placeOn k there) (count, numbersOn k numbers.now) octets.old at octets.new result }
+    requires { T (spot_ok k) }
+    ensures { Lays (place_on k there) (count, numbers_on k numbers.now) octets.old at octets.new result }
 {
     if there {
         let spot = spots::spot_at(k);
@@ -147,7 +147,7 @@ fn row(
     octets: &mut Field,
 ) -> usize
     requires { (k + left ≤ 200) × (i + left ≤ 8) × T (row_ok k left) }
-    ensures { Lays (row (drop i (flags items)) (itemsFrom k left)) (heldFrom k left i parts.now numbers.now) octets.old at octets.new result }
+    ensures { Lays (row (drop i (flags items)) (items_from k left)) (held_from k left i parts.now numbers.now) octets.old at octets.new result }
 {
     if left == 0 {
         return at;

@@ -4,7 +4,7 @@ ghost use Rattle.std.specs.Prelude.{◌≡◌, List, ◌+◌, ◌*◌, ◌^◌, 
 ghost use Rattle.std.proofs.lemmas.List.Edits.{sets};
 ghost use Rattle.codec.specs.Radix.{total, cut, eights};
 ghost use Rattle.codec.specs.Line.{widths, line};
-ghost use Rattle.lengths.specs.Lines.{line_at, first_at, piecesFrom};
+ghost use Rattle.lengths.specs.Lines.{line_at, first_at, pieces_from};
 ghost use Rattle.layout.specs.Laws.Slots.{Holds};
 ghost use Rattle.writer.specs.Digits.{low_bits, gathered};
 ghost use Rattle.writer.specs.Laying.{Lays};
@@ -33,8 +33,8 @@ fn digit(z: i32, w: u64) -> u64
 
 // The pieces of a code as one number of so many bits, their numbers from a slot on.
 fn gather(numbers: &Numbers, bits: u64, code: u64, left: usize, slot: usize) -> u64
-    requires { (bits ≡ total (widths (piecesFrom left code))) × (bits ≤ 48) × (slot + left ≤ 1000) }
-    ensures { result ≡ gathered (piecesFrom left code) numbers.now slot }
+    requires { (bits ≡ total (widths (pieces_from left code))) × (bits ≤ 48) × (slot + left ≤ 1000) }
+    ensures { result ≡ gathered (pieces_from left code) numbers.now slot }
 {
     if left == 0 {
         return 0;

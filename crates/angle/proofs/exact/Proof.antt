@@ -12,8 +12,8 @@ use lib.Signed.{mag, lt_z, quot_z}
 use mir.Syntax.{w32, w64}
 use mir.Val.{SFits, to_z, of_z}
 use mir.Facts.{to_z-of_z, sfits_widen}
-use Rattle.scope.specs.Angle.{rounded, udegOf, left_of}
-use Rattle.scope.specs.Laws.Angle.{negated-times}
+use Rattle.scope.specs.Angle.{rounded, udeg_of, left_of}
+use Rattle.scope.proofs.Laws.Angle.{negated_times}
 use Rattle.angle.specs.Half.{half_of}
 use Rattle.angle.proofs.exact.Statement.{statement}
 use Rattle.angle.proofs.exact.Tie as tie
@@ -24,15 +24,15 @@ negated_size : (n : ℕ) → mag (neg_ℤ (pos n)) ≤ n
 negated_size zero = omega arith
 negated_size (suc n) = omega arith
 
-product-size : (x : ℤ) (k : ℕ) → mag (x *ℤ pos k) ≤ suc (mag x) * k
-product-size (pos n) k = omega arith
-product-size (negsuc n) k = negated_size (suc n * k)
+product_size : (x : ℤ) (k : ℕ) → mag (x *ℤ pos k) ≤ suc (mag x) * k
+product_size (pos n) k = omega arith
+product_size (negsuc n) k = negated_size (suc n * k)
 
 product_small : (x : ℤ) (k : ℕ) → SFits w32 x → T (leb k 1_000_000) → mag (x *ℤ pos k) ≤ 3_000_000_000_000_000
 product_small x k f h =
     let g : suc (mag x) ≤ 2_147_483_648 = f.sfits in
     let m : suc (mag x) * k ≤ 2_147_483_648 * 1_000_000 = mul-le-mul g (leb→le k 1_000_000 h) in
-    omega (arith, product-size x k, m)
+    omega (arith, product_size x k, m)
 
 cond-size : (a b : ℕ) (t : Bool) → mag (cond t (negsuc (b - suc a)) (pos (a - b))) ≤ a + b
 cond-size a b true = omega arith
@@ -48,58 +48,58 @@ difference-size : (y z : ℤ) → mag (y -ℤ z) ≤ mag y + mag z + 2
 difference-size y (pos n) = omega (arith, sum-size y (neg_ℤ (pos n)), negated_size n)
 difference-size y (negsuc n) = omega (arith, sum-size y (pos (suc n)))
 
-quotient-size : (y : ℤ) → mag (quot_z y (pos 32_768)) ≤ mag y + 1
-quotient-size (pos a) = omega (arith, div-le_self a 32_768)
-quotient-size (negsuc a) = omega (arith, div-le_self (suc a) 32_768, negated_size (suc a / 32_768))
+quotient_size : (y : ℤ) → mag (quot_z y (pos 32_768)) ≤ mag y + 1
+quotient_size (pos a) = omega (arith, div-le_self a 32_768)
+quotient_size (negsuc a) = omega (arith, div-le_self (suc a) 32_768, negated_size (suc a / 32_768))
 
 -- a quotient, times the divisor or less, is not above what was divided
-times-size : (a m : ℕ) → m ≤ 32_768 → a / 32_768 * m ≤ a
-times-size a m h = let l : a / 32_768 * m ≤ a / 32_768 * 32_768 = mul-le-mul (omega arith) h in le_trans l (omega arith)
+times_size : (a m : ℕ) → m ≤ 32_768 → a / 32_768 * m ≤ a
+times_size a m h = let l : a / 32_768 * m ≤ a / 32_768 * 32_768 = mul-le-mul (omega arith) h in le_trans l (omega arith)
 
-back-size : (y : ℤ) (m : ℕ) → m ≤ 32_768 → mag (quot_z y (pos 32_768) *ℤ pos m) ≤ mag y + 1
-back-size (pos a) m h = omega (arith, times-size a m h)
-back-size (negsuc a) m h = rw (negated-times (suc a / 32_768) m) (omega (arith, negated_size (suc a / 32_768 * m), times-size (suc a) m h))
+back_size : (y : ℤ) (m : ℕ) → m ≤ 32_768 → mag (quot_z y (pos 32_768) *ℤ pos m) ≤ mag y + 1
+back_size (pos a) m h = omega (arith, times_size a m h)
+back_size (negsuc a) m h = rw (negated_times (suc a / 32_768) m) (omega (arith, negated_size (suc a / 32_768 * m), times_size (suc a) m h))
 
-half-small : (y : ℤ) → mag (half_of y) ≤ 1_000_000
+half_small : (y : ℤ) → mag (half_of y) ≤ 1_000_000
 unfolding half_of
-half-small y = go (lt_z y (pos 0))
+half_small y = go (lt_z y (pos 0))
   where
     go : (t : Bool) → mag (cond t (negsuc 16_383) (pos 16_384)) ≤ 1_000_000
     go true = omega arith
     go false = omega arith
 
 module _ (x : ℤ) (k : ℕ) (f : SFits w32 x) (h : T (leb k 1_000_000)) where
-  product-below : mag (x *ℤ pos k) ≤ 5_000_000_000_000_000
-  product-below = omega (arith, product_small x k f h)
+  product_below : mag (x *ℤ pos k) ≤ 5_000_000_000_000_000
+  product_below = omega (arith, product_small x k f h)
 
-  product-fits : SFits w64 (x *ℤ pos k)
-  product-fits = record { sfits = omega (arith, product-below) }
+  product_fits : SFits w64 (x *ℤ pos k)
+  product_fits = record { sfits = omega (arith, product_below) }
 
   module _ (z : ℤ) (g : mag z ≤ 1_000_000) where
-    sum-small : mag (x *ℤ pos k +ℤ z) ≤ 4_000_000_000_000_000
-    sum-small = omega (arith, sum-size (x *ℤ pos k) z, product_small x k f h)
+    sum_small : mag (x *ℤ pos k +ℤ z) ≤ 4_000_000_000_000_000
+    sum_small = omega (arith, sum-size (x *ℤ pos k) z, product_small x k f h)
 
     sum_fits : SFits w64 (x *ℤ pos k +ℤ z)
-    sum_fits = record { sfits = omega (arith, sum-small) }
+    sum_fits = record { sfits = omega (arith, sum_small) }
 
     quotient_fits : SFits w64 (quot_z (x *ℤ pos k +ℤ z) (pos 32_768))
-    quotient_fits = record { sfits = omega (arith, quotient-size (x *ℤ pos k +ℤ z), sum-small) }
+    quotient_fits = record { sfits = omega (arith, quotient_size (x *ℤ pos k +ℤ z), sum_small) }
 
     module _ (m : ℕ) (l : T (leb m 32_768)) where
-      back-small : mag (quot_z (x *ℤ pos k +ℤ z) (pos 32_768) *ℤ pos m) ≤ 5_000_000_000_000_000
-      back-small = omega (arith, back-size (x *ℤ pos k +ℤ z) m (leb→le m 32_768 l), sum-small)
+      back_small : mag (quot_z (x *ℤ pos k +ℤ z) (pos 32_768) *ℤ pos m) ≤ 5_000_000_000_000_000
+      back_small = omega (arith, back_size (x *ℤ pos k +ℤ z) m (leb→le m 32_768 l), sum_small)
 
       back_fits : SFits w64 (quot_z (x *ℤ pos k +ℤ z) (pos 32_768) *ℤ pos m)
-      back_fits = record { sfits = omega (arith, back-small) }
+      back_fits = record { sfits = omega (arith, back_small) }
 
 -- either way round
-difference-fits : (y z : ℤ) → mag y ≤ 5_000_000_000_000_000 → mag z ≤ 5_000_000_000_000_000 → SFits w64 (y -ℤ z)
-difference-fits y z g h = record { sfits = omega (arith, difference-size y z) }
+difference_fits : (y z : ℤ) → mag y ≤ 5_000_000_000_000_000 → mag z ≤ 5_000_000_000_000_000 → SFits w64 (y -ℤ z)
+difference_fits y z g h = record { sfits = omega (arith, difference-size y z) }
 
 -- ---- the quotient is 01's angle
 
-quotient_is : (x : ℤ) → quot_z (x *ℤ pos 703_125 +ℤ half_of (x *ℤ pos 703_125)) (pos 32_768) ≡ udegOf x
-unfolding udegOf rounded half_of
+quotient_is : (x : ℤ) → quot_z (x *ℤ pos 703_125 +ℤ half_of (x *ℤ pos 703_125)) (pos 32_768) ≡ udeg_of x
+unfolding udeg_of rounded half_of
 quotient_is (pos n) = rw (le-ltb (n * 703_125) 0 (omega arith)) refl
 quotient_is (negsuc n) =
     let p : suc n * 703_125 ≡ suc (n * 703_125 + 703_124) = omega arith in
@@ -109,50 +109,50 @@ quotient_is (negsuc n) =
 
 -- ---- the machine's steps
 
-cast-product : tie.Need-overflow-cast-product
-cast-product c = rw (to_z-of_z c.ranges.n) (sfits_widen tt c.ranges.n)
+cast_product : tie.Need-overflow-cast-product
+cast_product c = rw (to_z-of_z c.ranges.n) (sfits_widen tt c.ranges.n)
 
-mul-product : tie.Need-overflow-mul-product
-mul-product c = rw (to_z-of_z (cast-product c), to_z-of_z c.ranges.n) (product-fits c.args.n _ c.ranges.n tt)
+mul_product : tie.Need-overflow-mul-product
+mul_product c = rw (to_z-of_z (cast_product c), to_z-of_z c.ranges.n) (product_fits c.args.n _ c.ranges.n tt)
 
 half_is : (c : tie.After-half) → to_z w64 (of_z w64 c.half.result) ≡ c.half.result
 half_is c = to_z-of_z {w = w64} {z = c.half.result} (sfits_of c.half.type-inv)
 
-half-size : (c : tie.After-half) → mag c.half.result ≤ 1_000_000
-half-size c = subst (λ z. mag z ≤ 1_000_000) (sym c.half.ensures) (half-small _)
+half_size : (c : tie.After-half) → mag c.half.result ≤ 1_000_000
+half_size c = subst (λ z. mag z ≤ 1_000_000) (sym c.half.ensures) (half_small _)
 
-add-udeg : tie.Need-overflow-add-udeg
-add-udeg c =
+add_udeg : tie.Need-overflow-add-udeg
+add_udeg c =
     let b = c.before in
-    rw (half_is c, to_z-of_z (mul-product b), to_z-of_z (cast-product b), to_z-of_z b.ranges.n) (sum_fits b.args.n _ b.ranges.n tt _ (half-size c))
+    rw (half_is c, to_z-of_z (mul_product b), to_z-of_z (cast_product b), to_z-of_z b.ranges.n) (sum_fits b.args.n _ b.ranges.n tt _ (half_size c))
 
-div-udeg : tie.Need-nonzero-div-udeg
-div-udeg c =
+div_udeg : tie.Need-nonzero-div-udeg
+div_udeg c =
     let b = c.before in (
       omega arith,
-      rw (to_z-of_z (add-udeg c), half_is c, to_z-of_z (mul-product b), to_z-of_z (cast-product b), to_z-of_z b.ranges.n)
-          (quotient_fits b.args.n _ b.ranges.n tt _ (half-size c)),
+      rw (to_z-of_z (add_udeg c), half_is c, to_z-of_z (mul_product b), to_z-of_z (cast_product b), to_z-of_z b.ranges.n)
+          (quotient_fits b.args.n _ b.ranges.n tt _ (half_size c)),
     )
 
-mul-back : tie.Need-overflow-mul-t4
-mul-back c =
+mul_back : tie.Need-overflow-mul-t4
+mul_back c =
     let b = c.before in
-    rw (to_z-of_z (div-udeg c).1, to_z-of_z (add-udeg c), half_is c, to_z-of_z (mul-product b), to_z-of_z (cast-product b), to_z-of_z b.ranges.n)
-    (back_fits b.args.n _ b.ranges.n tt _ (half-size c) _ tt)
+    rw (to_z-of_z (div_udeg c).1, to_z-of_z (add_udeg c), half_is c, to_z-of_z (mul_product b), to_z-of_z (cast_product b), to_z-of_z b.ranges.n)
+    (back_fits b.args.n _ b.ranges.n tt _ (half_size c) _ tt)
 
-sub-left : tie.Need-overflow-sub-t5
-sub-left c =
+sub_left : tie.Need-overflow-sub-t5
+sub_left c =
     let b = c.before in
-    rw (to_z-of_z (mul-back c), to_z-of_z (div-udeg c).1, to_z-of_z (add-udeg c), half_is c, to_z-of_z (mul-product b), to_z-of_z (cast-product b), to_z-of_z b.ranges.n)
-    (search (difference-fits, product-below, back-small, b.ranges.n, half-size c))
+    rw (to_z-of_z (mul_back c), to_z-of_z (div_udeg c).1, to_z-of_z (add_udeg c), half_is c, to_z-of_z (mul_product b), to_z-of_z (cast_product b), to_z-of_z b.ranges.n)
+    (search (difference_fits, product_below, back_small, b.ranges.n, half_size c))
 
 returns : tie.Need-returns
 unfolding left_of
 returns c =
     let b = c.before in
     let x = b.args.n in
-    rw (to_z-of_z (sub-left c), to_z-of_z (mul-back c), to_z-of_z (div-udeg c).1, to_z-of_z (add-udeg c), half_is c, c.half.ensures, to_z-of_z (mul-product b), to_z-of_z (cast-product b), to_z-of_z b.ranges.n)
+    rw (to_z-of_z (sub_left c), to_z-of_z (mul_back c), to_z-of_z (div_udeg c).1, to_z-of_z (add_udeg c), half_is c, c.half.ensures, to_z-of_z (mul_product b), to_z-of_z (cast_product b), to_z-of_z b.ranges.n)
     (quotient_is x, ap (λ q. x *ℤ pos 703_125 -ℤ q *ℤ pos 32_768) (quotient_is x))
 
-pub exact-spec : {M : Type 1} → statement M
-exact-spec = tie.close (tie.spec cast-product mul-product (λ c κs. tt) add-udeg div-udeg mul-back sub-left returns)
+pub exact_spec : {M : Type 1} → statement M
+exact_spec = tie.close (tie.spec cast_product mul_product (λ c κs. tt) add_udeg div_udeg mul_back sub_left returns)

@@ -9,9 +9,9 @@ returns : tie.Need-returns
 unfolding half_of
 returns c = let t = rw (to_z-of_z c.before.ranges.product) at c.if1.true in rw t refl
 
-returns-2 : tie.Need-returns-2
+returns_2 : tie.Need-returns-2
 unfolding half_of
-returns-2 c = let t = rw (to_z-of_z c.before.ranges.product) at c.if1.false in rw t refl
+returns_2 c = let t = rw (to_z-of_z c.before.ranges.product) at c.if1.false in rw t refl
 
 pub half_spec : {M : Type 1} → statement M
-half_spec = tie.close (tie.spec returns returns-2)
+half_spec = tie.close (tie.spec returns returns_2)

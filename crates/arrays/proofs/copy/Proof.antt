@@ -6,18 +6,18 @@ use borrow.Author.Rules.{rules, sfits_of}
 use lib.IntN.{pos}
 use lib.ListN.{length, length-set}
 use mir.Facts.{to_z-of_z}
-use Rattle.interface.specs.Laws.Copies.{copied, copied_more, copied_all}
+use Rattle.interface.proofs.Laws.Copies.{copied, copied_more, copied_all}
 use Rattle.arrays.proofs.copy.Statement.{statement}
 use Rattle.arrays.proofs.copy.Tie as tie
 
-abbrev invariant-loop : tie.invariant-loop
-invariant-loop from to₀ i₀ to i = (i ≤ length from) × (to ≡ copied i from to₀) × (length to ≡ length to₀)
+abbrev invariant_loop : tie.invariant-loop
+invariant_loop from to₀ i₀ to i = (i ≤ length from) × (to ≡ copied i from to₀) × (length to ≡ length to₀)
 
-abbrev decreases-loop : tie.decreases-loop
-decreases-loop from to₀ i₀ to i = length from - i
+abbrev decreases_loop : tie.decreases-loop
+decreases_loop from to₀ i₀ to i = length from - i
 
-loop-again : tie.Need-loop-preserved invariant-loop decreases-loop
-loop-again c =
+loop_again : tie.Need-loop-preserved invariant_loop decreases_loop
+loop_again c =
     let l = c.before.before in
     let a = l.before.args in (
       omega arith,
@@ -25,7 +25,7 @@ loop-again c =
       simp length-set l.loop.invariant.2,
     )
 
-returns : tie.Need-returns invariant-loop decreases-loop
+returns : tie.Need-returns invariant_loop decreases_loop
 returns c =
     let l = c.before in
     let a = l.before.args in
@@ -35,8 +35,8 @@ pub copy_spec : {M : Type 1} → statement M
 copy_spec =
     tie.close
     (tie.spec
-    invariant-loop
-    decreases-loop
+    invariant_loop
+    decreases_loop
     (λ c. (omega arith, refl, refl))
     (λ c. search rules)
     (λ c. omega arith)
@@ -44,6 +44,6 @@ copy_spec =
     (λ c. omega arith)
     (λ c. omega arith)
     (λ c. omega arith)
-    loop-again
+    loop_again
     (λ c. c.before.loop.invariant.2)
     returns)

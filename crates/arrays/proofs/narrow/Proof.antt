@@ -7,40 +7,40 @@ use borrow.Author.Rules.{rules, sfits_of}
 use lib.IntN.{pos}
 use lib.ListN.{length, length-set}
 use mir.Facts.{to_z-of_z}
-use Rattle.interface.specs.Arrays.{octetOf}
-use Rattle.interface.specs.Laws.Copies.{copied, mapped-more, mapped-all}
+use Rattle.interface.specs.Arrays.{octet_of}
+use Rattle.interface.proofs.Laws.Copies.{copied, mapped_more, mapped_all}
 use Rattle.arrays.proofs.narrow.Statement.{statement}
 use Rattle.arrays.proofs.narrow.Tie as tie
 
-abbrev invariant-loop : tie.invariant-loop
-invariant-loop numbers octets₀ i₀ octets i = (i ≤ length numbers) × (octets ≡ copied i (map octetOf numbers) octets₀) × (length octets ≡ length octets₀)
+abbrev invariant_loop : tie.invariant-loop
+invariant_loop numbers octets₀ i₀ octets i = (i ≤ length numbers) × (octets ≡ copied i (map octet_of numbers) octets₀) × (length octets ≡ length octets₀)
 
-abbrev decreases-loop : tie.decreases-loop
-decreases-loop numbers octets₀ i₀ octets i = length numbers - i
+abbrev decreases_loop : tie.decreases-loop
+decreases_loop numbers octets₀ i₀ octets i = length numbers - i
 
-loop-again : tie.Need-loop-preserved invariant-loop decreases-loop
-loop-again c =
+loop_again : tie.Need-loop-preserved invariant_loop decreases_loop
+loop_again c =
     let l = c.before.before.before in
     let s = l.before.before in
     let a = s.args in (
       omega arith,
       rw l.loop.invariant.1
-          (mapped-more octetOf a.numbers.now a.octets.now s.requires l.loop.i (pos 0) (omega arith) (c.octet.ensures ∙ ap octetOf (to_z-of_z (sfits_of c.before.octet-arg.given)))),
+          (mapped_more octet_of a.numbers.now a.octets.now s.requires l.loop.i (pos 0) (omega arith) (c.octet.ensures ∙ ap octet_of (to_z-of_z (sfits_of c.before.octet-arg.given)))),
       simp length-set l.loop.invariant.2,
     )
 
-returns : tie.Need-returns invariant-loop decreases-loop
+returns : tie.Need-returns invariant_loop decreases_loop
 returns c =
     let l = c.before in
     let s = l.before.before in
-    l.loop.invariant.1 ∙ mapped-all octetOf s.args.numbers.now s.args.octets.now s.requires l.loop.i (omega arith)
+    l.loop.invariant.1 ∙ mapped_all octet_of s.args.numbers.now s.args.octets.now s.requires l.loop.i (omega arith)
 
-pub narrow-spec : {M : Type 1} → statement M
-narrow-spec =
+pub narrow_spec : {M : Type 1} → statement M
+narrow_spec =
     tie.close
     (tie.spec
-    invariant-loop
-    decreases-loop
+    invariant_loop
+    decreases_loop
     (λ c. (omega arith, refl, refl))
     (λ c. search rules)
     (λ c. omega arith)
@@ -48,6 +48,6 @@ narrow-spec =
     (λ c. omega arith)
     (λ c. omega arith)
     (λ c. omega arith)
-    loop-again
+    loop_again
     (λ c. c.before.loop.invariant.2)
     returns)

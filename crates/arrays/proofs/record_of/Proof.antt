@@ -2,8 +2,8 @@
 use mathlib.Core.Path.{ap, ◌∙◌}
 use borrow.Author.Rules.{rules, sfits_of}
 use mir.Facts.{to_z-of_z}
-use Rattle.interface.specs.Arrays.{octetOf}
-use Rattle.interface.specs.Laws.Arrays.{record-made}
+use Rattle.interface.specs.Arrays.{octet_of}
+use Rattle.interface.proofs.Laws.Arrays.{record_made}
 use Rattle.arrays.proofs.record_of.Statement.{statement}
 use Rattle.arrays.proofs.record_of.Tie as tie
 
@@ -13,10 +13,10 @@ returns c =
     let k = o.before.before.before in
     let n = k.before.before.before.before in
     let s = n.before.before.before in
-    record-made s.args.a.now (o.octet.ensures ∙ ap octetOf (to_z-of_z (sfits_of o.before.octet-arg.given))) (c.octet2.ensures ∙ ap octetOf (to_z-of_z (sfits_of c.before.octet-arg2.given))) n.narrow.ensures k.copy.ensures
+    record_made s.args.a.now (o.octet.ensures ∙ ap octet_of (to_z-of_z (sfits_of o.before.octet-arg.given))) (c.octet2.ensures ∙ ap octet_of (to_z-of_z (sfits_of c.before.octet-arg2.given))) n.narrow.ensures k.copy.ensures
 
-pub record-of-spec : {M : Type 1} → statement M
-record-of-spec =
+pub record_of_spec : {M : Type 1} → statement M
+record_of_spec =
     tie.close
     (tie.spec
     (λ c. search rules)

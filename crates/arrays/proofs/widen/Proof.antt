@@ -7,39 +7,39 @@ use borrow.Author.Rules.{rules, sfits_of}
 use lib.IntN.{pos}
 use lib.ListN.{length, length-set}
 use mir.Facts.{to_z-of_z}
-use Rattle.interface.specs.Laws.Copies.{copied, mapped-more, mapped-all}
+use Rattle.interface.proofs.Laws.Copies.{copied, mapped_more, mapped_all}
 use Rattle.arrays.proofs.widen.Statement.{statement}
 use Rattle.arrays.proofs.widen.Tie as tie
 
-abbrev invariant-loop : tie.invariant-loop
-invariant-loop octets numbers₀ i₀ numbers i = (i ≤ length octets) × (numbers ≡ copied i (map pos octets) numbers₀) × (length numbers ≡ length numbers₀)
+abbrev invariant_loop : tie.invariant-loop
+invariant_loop octets numbers₀ i₀ numbers i = (i ≤ length octets) × (numbers ≡ copied i (map pos octets) numbers₀) × (length numbers ≡ length numbers₀)
 
-abbrev decreases-loop : tie.decreases-loop
-decreases-loop octets numbers₀ i₀ numbers i = length octets - i
+abbrev decreases_loop : tie.decreases-loop
+decreases_loop octets numbers₀ i₀ numbers i = length octets - i
 
-loop-again : tie.Need-loop-preserved invariant-loop decreases-loop
-loop-again c =
+loop_again : tie.Need-loop-preserved invariant_loop decreases_loop
+loop_again c =
     let l = c.before.before.before in
     let s = l.before.before in
     let a = s.args in (
       omega arith,
       rw l.loop.invariant.1
-          (mapped-more pos a.octets.now a.numbers.now s.requires l.loop.i 0 (omega arith) (to_z-of_z (sfits_of c.signed.type-inv) ∙ c.signed.ensures)),
+          (mapped_more pos a.octets.now a.numbers.now s.requires l.loop.i 0 (omega arith) (to_z-of_z (sfits_of c.signed.type-inv) ∙ c.signed.ensures)),
       simp length-set l.loop.invariant.2,
     )
 
-returns : tie.Need-returns invariant-loop decreases-loop
+returns : tie.Need-returns invariant_loop decreases_loop
 returns c =
     let l = c.before in
     let s = l.before.before in
-    l.loop.invariant.1 ∙ mapped-all pos s.args.octets.now s.args.numbers.now s.requires l.loop.i (omega arith)
+    l.loop.invariant.1 ∙ mapped_all pos s.args.octets.now s.args.numbers.now s.requires l.loop.i (omega arith)
 
 pub widen_spec : {M : Type 1} → statement M
 widen_spec =
     tie.close
     (tie.spec
-    invariant-loop
-    decreases-loop
+    invariant_loop
+    decreases_loop
     (λ c. (omega arith, refl, refl))
     (λ c. omega arith)
     (λ c κs. search rules)
@@ -47,6 +47,6 @@ widen_spec =
     (λ c. omega arith)
     (λ c. omega arith)
     (λ c. omega arith)
-    loop-again
+    loop_again
     (λ c. c.before.loop.invariant.2)
     returns)

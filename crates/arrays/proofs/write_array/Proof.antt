@@ -6,8 +6,8 @@ use lib.IntN.{pos}
 use lib.ListN.{get_or}
 use mir.Facts.{to_z-of_z}
 use Rattle.papers.specs.Papers.{known}
-use Rattle.interface.specs.Arrays.{octetOf}
-use Rattle.interface.specs.Laws.Arrays.{array-length, array-unknown, array_parts, array_written}
+use Rattle.interface.specs.Arrays.{octet_of}
+use Rattle.interface.proofs.Laws.Arrays.{array_length, array_unknown, array_parts, array_written}
 use Rattle.arrays.proofs.write_array.Statement.{statement}
 use Rattle.arrays.proofs.write_array.Tie as tie
 
@@ -18,10 +18,10 @@ abbrev start : tie.After-is-known → tie.Start
 start c = (then c).before.before
 
 -- the category that is tested is the array's
-tested : (c : tie.After-is-known) → {b : Bool} → c.is_Known.result ≡ b → known (octetOf (get_or (start c).args.a.now 0 (pos 0))) ≡ b
+tested : (c : tie.After-is-known) → {b : Bool} → c.is_Known.result ≡ b → known (octet_of (get_or (start c).args.a.now 0 (pos 0))) ≡ b
 tested c e =
     let o = c.before in
-    sym (c.is_Known.ensures ∙ ap known (o.octet.ensures ∙ ap octetOf (to_z-of_z (sfits_of o.before.octet-arg.given)))) ∙ e
+    sym (c.is_Known.ensures ∙ ap known (o.octet.ensures ∙ ap octet_of (to_z-of_z (sfits_of o.before.octet-arg.given)))) ∙ e
 
 returns : tie.Need-returns
 returns c =
@@ -31,24 +31,24 @@ returns c =
     let t = o.before.before in
     let k = t.before in
     let a = (start k).args in
-    array_written a.a.now a.out.now (then k).if1.true (tested k t.if2.true) (sym o.are-octets.ensures ∙ r.before.if3.true) r.record_of.ensures w.write.ensures
+    array_written a.a.now a.out.now (then k).if1.true (tested k t.if2.true) (sym o.are_all_octets.ensures ∙ r.before.if3.true) r.record_of.ensures w.write.ensures
 
-returns-2 : tie.Need-returns-2
-returns-2 c =
+returns_2 : tie.Need-returns-2
+returns_2 c =
     let o = c.before in
     let t = o.before.before in
     let k = t.before in
     let a = (start k).args in
-    array_parts a.a.now a.out.now (then k).if1.true (tested k t.if2.true) (sym o.are-octets.ensures ∙ c.if3.false)
+    array_parts a.a.now a.out.now (then k).if1.true (tested k t.if2.true) (sym o.are_all_octets.ensures ∙ c.if3.false)
 
-returns-3 : tie.Need-returns-3
-returns-3 c =
+returns_3 : tie.Need-returns-3
+returns_3 c =
     let k = c.before in
     let a = (start k).args in
-    array-unknown a.a.now a.out.now (then k).if1.true (tested k c.if2.false)
+    array_unknown a.a.now a.out.now (then k).if1.true (tested k c.if2.false)
 
-returns-4 : tie.Need-returns-4
-returns-4 c = let a = c.before.before.args in array-length a.a.now a.out.now c.if1.false
+returns_4 : tie.Need-returns-4
+returns_4 c = let a = c.before.before.args in array_length a.a.now a.out.now c.if1.false
 
 pub write_array_spec : {M : Type 1} → statement M
 write_array_spec =
@@ -65,6 +65,6 @@ write_array_spec =
     (λ c κs. search rules)
     (λ c. search rules)
     returns
-    returns-2
-    returns-3
-    returns-4)
+    returns_2
+    returns_3
+    returns_4)

@@ -3,11 +3,11 @@ use mathlib.Core.Path.{refl, ap, ◌∙◌}
 use native.Mathlib.Omega.{arith}
 use borrow.Author.Rules.{rules}
 use lib.ListN.{length}
-use Rattle.codec.specs.Change.{remove, setFlag}
-use Rattle.codec.specs.Laws.Change.{newOctets, newFlag}
-use Rattle.scope.specs.Laws.Outputs.{refused-left}
-use Rattle.codec.specs.Laws.Codec.{octets-all}
-use Rattle.desk.specs.Laws.Edits.{allowed-found, allowed-fell, edit-removes, exchange-asks, edit-made}
+use Rattle.codec.specs.Change.{remove, set_flag}
+use Rattle.codec.proofs.Laws.Change.{new_octets, new_flag}
+use Rattle.scope.proofs.Laws.Outputs.{refused_left}
+use Rattle.codec.proofs.Laws.Codec.{octets_all}
+use Rattle.desk.specs.Laws.Edits.{allowed-found, allowed-fell, edit_removes, exchange_asks, edit_made}
 use Rattle.desk.proofs.remove.Statement.{statement}
 use Rattle.desk.proofs.remove.Tie as tie
 
@@ -15,23 +15,23 @@ returns : tie.Need-returns
 returns c =
     let v = c.before.before in
     let a = v.before.before.before.args in
-    refused-left (allowed-fell a.cat a.field.now a.list a.item v.allowed.ensures c.enum_told.given.1 remove (length a.out.now)) a.out.now c.enum_told.given.1
+    refused_left (allowed-fell a.cat a.field.now a.list a.item v.allowed.ensures c.enum_told.given.1 remove (length a.out.now)) a.out.now c.enum_told.given.1
 
-exchanged-requires : tie.Need-exchanged-requires
-unfolding newOctets
-exchanged-requires c κs =
+exchanged_requires : tie.Need-exchanged-requires
+unfolding new_octets
+exchanged_requires c κs =
     let n = c.before.before in
     let e = n.before.before.before.before in
     let v = e.before.before in
     let k = v.before.before in
     let a = k.before.args in
     let f = allowed-found a.cat a.field.now a.list a.item v.allowed.ensures e.a.given.1 in
-    let p = edit-removes a.cat a.field.now f.0 e.a.given.1 a.list a.item refl f.1 in
-    exchange-asks a.cat a.field.now f.0 e.a.given.1 a.list a.item refl f.1 (octets-all a.field.now (λ i. omega (arith, k.shared-slice-known.given i))) remove tt p.0 p.1
+    let p = edit_removes a.cat a.field.now f.0 e.a.given.1 a.list a.item refl f.1 in
+    exchange_asks a.cat a.field.now f.0 e.a.given.1 a.list a.item refl f.1 (octets_all a.field.now (λ i. omega (arith, k.shared-slice-known.given i))) remove tt p.0 p.1
 
-returns-2 : tie.Need-returns-2
-unfolding newOctets newFlag
-returns-2 c =
+returns_2 : tie.Need-returns-2
+unfolding new_octets new_flag
+returns_2 c =
     let d = c.before.before in
     let n = d.before.before.before in
     let i = n.before in
@@ -40,11 +40,11 @@ returns-2 c =
     let k = v.before.before in
     let a = k.before.args in
     let f = allowed-found a.cat a.field.now a.list a.item v.allowed.ensures e.a.given.1 in
-    let p = edit-removes a.cat a.field.now f.0 e.a.given.1 a.list a.item refl f.1 in
-    edit-made a.cat a.field.now f.0 e.a.given.1 a.list a.item refl f.1 (octets-all a.field.now (λ i. omega (arith, k.shared-slice-known.given i))) remove tt p.0 p.1
-    (n.without-item.ensures ∙ ap (λ j. setFlag v.allowed.result.items j 0) i.index.ensures) d.exchanged.ensures
+    let p = edit_removes a.cat a.field.now f.0 e.a.given.1 a.list a.item refl f.1 in
+    edit_made a.cat a.field.now f.0 e.a.given.1 a.list a.item refl f.1 (octets_all a.field.now (λ i. omega (arith, k.shared-slice-known.given i))) remove tt p.0 p.1
+    (n.without-item.ensures ∙ ap (λ j. set_flag v.allowed.result.items j 0) i.index.ensures) d.exchanged.ensures
 
-pub remove-spec : {M : Type 1} → statement M
-remove-spec =
+pub remove_spec : {M : Type 1} → statement M
+remove_spec =
     tie.close
-    (tie.spec (λ c κs. search rules) (λ c. search rules) (λ c. search rules) returns (λ c κs. search rules) (λ c κs. search rules) (λ c. search rules) exchanged-requires (λ c. search rules) returns-2)
+    (tie.spec (λ c κs. search rules) (λ c. search rules) (λ c. search rules) returns (λ c κs. search rules) (λ c κs. search rules) (λ c. search rules) exchanged_requires (λ c. search rules) returns_2)

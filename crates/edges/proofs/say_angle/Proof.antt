@@ -4,7 +4,7 @@ use native.Mathlib.Omega.{arith}
 use borrow.Author.Rules.{rules}
 use mir.Facts.{to_z-of_z, sfits_widen}
 use lib.Seq.{length-take-le}
-use Rattle.text.specs.Laws.Typing.{types-behind, types-within}
+use Rattle.text.specs.Laws.Typing.{types_behind, types_within}
 use Rattle.edges.proofs.say_angle.Statement.{statement}
 use Rattle.edges.proofs.say_angle.Tie as tie
 
@@ -13,21 +13,21 @@ cast_signed c =
     let s = c.before.before.before.before in
     rw (to_z-of_z s.ranges.n) (sfits_widen tt s.ranges.n)
 
-array-share-prefix-buf : tie.Need-array-share-prefix-buf
-array-share-prefix-buf c =
+array_share_prefix_buf : tie.Need-array-share-prefix-buf
+array_share_prefix_buf c =
     let l = c.before.before in
     let w = l.before.before.before in
     let u = w.before.before.before in
     let v = u.before.before.before.before in
     let n = v.before.before.before in
     let f = n.before.before in
-    types-within (types-behind f.word.ensures (types-behind n.signed.ensures (types-behind v.word2.ensures (types-behind u.signed2.ensures (types-behind w.word3.ensures (types-behind l.signed3.ensures c.line-end.ensures)))))) (sym f.before.before.before.buffer.ensures) (omega arith)
+    types_within (types_behind f.word.ensures (types_behind n.signed.ensures (types_behind v.word2.ensures (types_behind u.signed2.ensures (types_behind w.word3.ensures (types_behind l.signed3.ensures c.line-end.ensures)))))) (sym f.before.before.before.buffer.ensures) (omega arith)
 
-slice-aggregate-say : tie.Need-slice-aggregate-say
-slice-aggregate-say c = let a = c.before in sym (length-take-le _ _ (array-share-prefix-buf a))
+slice_aggregate_say : tie.Need-slice-aggregate-say
+slice_aggregate_say c = let a = c.before in sym (length-take-le _ _ (array_share_prefix_buf a))
 
-pub say-angle-spec : {M : Type 1} → statement M
-say-angle-spec =
+pub say_angle_spec : {M : Type 1} → statement M
+say_angle_spec =
     tie.close
     (tie.spec
     (λ c κs. tt)
@@ -43,7 +43,7 @@ say-angle-spec =
     (λ c κs. tt)
     (λ c κs. tt)
     (λ c κs. tt)
-    array-share-prefix-buf
-    slice-aggregate-say
+    array_share_prefix_buf
+    slice_aggregate_say
     (λ c κs. tt)
     (λ c. tt))

@@ -1,20 +1,20 @@
 -- `exports::beside_word` meets its contract: one law for each case. Assumes nothing.
 use borrow.Author.Rules.{rules}
-use Rattle.interface.specs.Laws.Packed.{accepted-fits, accepted-word, refused-fits, refused-word}
+use Rattle.interface.proofs.Laws.Packed.{accepted_fits, accepted_word, refused_fits, refused_word}
 use Rattle.exports.proofs.beside_word.Statement.{statement}
 use Rattle.exports.proofs.beside_word.Tie as tie
 
-word-requires : tie.Need-word-requires
-word-requires c κs = accepted-fits c.before.a.given.1 c.before.before.before.requires
+word_requires : tie.Need-word-requires
+word_requires c κs = accepted_fits c.before.a.given.1 c.before.before.before.requires
 
-word-requires-2 : tie.Need-word-requires-2
-word-requires-2 c κs = refused-fits c.before.a2.given.1 c.before.before.before.requires
+word_requires_2 : tie.Need-word-requires-2
+word_requires_2 c κs = refused_fits c.before.a2.given.1 c.before.before.before.requires
 
 returns : tie.Need-returns
-returns c = let a = c.before.before in accepted-word a.a.given.1 a.before.before.args.which c.word.ensures
+returns c = let a = c.before.before in accepted_word a.a.given.1 a.before.before.args.which c.word.ensures
 
-returns-2 : tie.Need-returns-2
-returns-2 c = let a = c.before.before in refused-word a.a2.given.1 a.before.before.args.which c.word2.ensures
+returns_2 : tie.Need-returns-2
+returns_2 c = let a = c.before.before in refused_word a.a2.given.1 a.before.before.args.which c.word2.ensures
 
-pub beside-word-spec : {M : Type 1} → statement M
-beside-word-spec = tie.close (tie.spec (λ c. search rules) word-requires (λ c. search rules) word-requires-2 returns returns-2)
+pub beside_word_spec : {M : Type 1} → statement M
+beside_word_spec = tie.close (tie.spec (λ c. search rules) word_requires (λ c. search rules) word_requires_2 returns returns_2)

@@ -3,24 +3,24 @@ use mathlib.Core.Path.{sym, ap, ◌∙◌, subst}
 use native.Mathlib.Omega.{arith}
 use borrow.Author.Rules.{rules}
 use lib.ListN.{length}
-use Rattle.codec.specs.Laws.Codec.{octets-all}
-use Rattle.interface.specs.Packed.{answerWord}
-use Rattle.interface.specs.Laws.Fits.{FitAnswer, copy-fits}
+use Rattle.codec.proofs.Laws.Codec.{octets_all}
+use Rattle.interface.specs.Packed.{answer_word}
+use Rattle.interface.proofs.Laws.Fits.{FitAnswer, copy_fits}
 use Rattle.exports.proofs.ref_copy.Statement.{statement}
 use Rattle.exports.proofs.ref_copy.Tie as tie
 
-answer-word-requires : tie.Need-answer-word-requires
-answer-word-requires c κs =
+answer_word_requires : tie.Need-answer-word-requires
+answer_word_requires c κs =
     let d = c.before.before in
     let k = d.before.before.before in
     let a = k.before.args in
     subst FitAnswer (sym d.copy.ensures.answer)
-    (copy-fits a.cat a.field.now a.withheld (length a.out.now) (octets-all a.field.now (λ i. omega (arith, k.shared-slice-known.given i))))
+    (copy_fits a.cat a.field.now a.withheld (length a.out.now) (octets_all a.field.now (λ i. omega (arith, k.shared-slice-known.given i))))
 
 returns : tie.Need-returns
 returns c =
     let d = c.before.before.before.copy.ensures in
-    record { word = c.answer_word.ensures ∙ ap answerWord d.answer; output = d.output }
+    record { word = c.answer_word.ensures ∙ ap answer_word d.answer; output = d.output }
 
-pub ref-copy-spec : {M : Type 1} → statement M
-ref-copy-spec = tie.close (tie.spec (λ c κs. search rules) answer-word-requires (λ c. search rules) returns)
+pub ref_copy_spec : {M : Type 1} → statement M
+ref_copy_spec = tie.close (tie.spec (λ c κs. search rules) answer_word_requires (λ c. search rules) returns)

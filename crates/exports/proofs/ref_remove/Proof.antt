@@ -4,26 +4,26 @@ use native.Mathlib.Omega.{arith}
 use borrow.Author.Rules.{rules}
 use lib.ListN.{length}
 use Rattle.codec.specs.Change.{remove}
-use Rattle.codec.specs.Laws.Change.{newOctets}
-use Rattle.codec.specs.Laws.Codec.{octets-all}
-use Rattle.interface.specs.Packed.{answerWord}
-use Rattle.interface.specs.Laws.Fits.{FitAnswer, edit-fits}
+use Rattle.codec.proofs.Laws.Change.{new_octets}
+use Rattle.codec.proofs.Laws.Codec.{octets_all}
+use Rattle.interface.specs.Packed.{answer_word}
+use Rattle.interface.proofs.Laws.Fits.{FitAnswer, edit_fits}
 use Rattle.exports.proofs.ref_remove.Statement.{statement}
 use Rattle.exports.proofs.ref_remove.Tie as tie
 
-answer-word-requires : tie.Need-answer-word-requires
-unfolding newOctets
-answer-word-requires c κs =
+answer_word_requires : tie.Need-answer-word-requires
+unfolding new_octets
+answer_word_requires c κs =
     let d = c.before.before in
     let k = d.before.before.before in
     let a = k.before.args in
     subst FitAnswer (sym d.remove.ensures.answer)
-    (edit-fits a.cat a.field.now a.list a.item remove (length a.out.now) (octets-all a.field.now (λ i. omega (arith, k.shared-slice-known.given i))) tt)
+    (edit_fits a.cat a.field.now a.list a.item remove (length a.out.now) (octets_all a.field.now (λ i. omega (arith, k.shared-slice-known.given i))) tt)
 
 returns : tie.Need-returns
 returns c =
     let d = c.before.before.before.remove.ensures in
-    record { word = c.answer_word.ensures ∙ ap answerWord d.answer; output = d.output }
+    record { word = c.answer_word.ensures ∙ ap answer_word d.answer; output = d.output }
 
-pub ref-remove-spec : {M : Type 1} → statement M
-ref-remove-spec = tie.close (tie.spec (λ c κs. search rules) answer-word-requires (λ c. search rules) returns)
+pub ref_remove_spec : {M : Type 1} → statement M
+ref_remove_spec = tie.close (tie.spec (λ c κs. search rules) answer_word_requires (λ c. search rules) returns)

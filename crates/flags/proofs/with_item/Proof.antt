@@ -6,38 +6,38 @@ use borrow.Author.Rules.{rules}
 use mir.Syntax.{w8}
 use mir.Val.{Fits}
 use mir.Facts.{Fits-of_lt}
-use Rattle.codec.specs.Laws.Flags.{set-bit, set-none, set_past}
+use Rattle.codec.proofs.Laws.Flags.{set_bit, set_none, set_past}
 use Rattle.flags.proofs.with_item.Statement.{statement}
 use Rattle.flags.proofs.with_item.Tie as tie
 
-octet-lt : {x : ℕ} → Fits w8 x → x < 256
-octet-lt f = f.fits
+octet_lt : {x : ℕ} → Fits w8 x → x < 256
+octet_lt f = f.fits
 
 returns : tie.Need-returns
 returns c =
     let p = c.before in
     let i = p.before in
     let s = i.before in
-    sym (set-none s.args.items s.args.i (octet-lt s.ranges.items) i.if1.true (sym p.present.ensures ∙ c.if2.true))
+    sym (set_none s.args.items s.args.i (octet_lt s.ranges.items) i.if1.true (sym p.present.ensures ∙ c.if2.true))
 
-add-result : tie.Need-overflow-add-result
-add-result c =
+add_result : tie.Need-overflow-add-result
+add_result c =
     let e = c.before in
     let p = e.before in
     let i = p.before in
     let s = i.before in
-    Fits-of_lt (omega (arith, c.bit.ensures, (set-bit s.args.items s.args.i (octet-lt s.ranges.items) i.if1.true (sym p.present.ensures ∙ e.if2.false)).1))
+    Fits-of_lt (omega (arith, c.bit.ensures, (set_bit s.args.items s.args.i (octet_lt s.ranges.items) i.if1.true (sym p.present.ensures ∙ e.if2.false)).1))
 
-returns-2 : tie.Need-returns-2
-returns-2 c =
+returns_2 : tie.Need-returns-2
+returns_2 c =
     let e = c.before in
     let p = e.before in
     let i = p.before in
     let s = i.before in
-    ap (s.args.items +◌) c.bit.ensures ∙ sym (set-bit s.args.items s.args.i (octet-lt s.ranges.items) i.if1.true (sym p.present.ensures ∙ e.if2.false)).0
+    ap (s.args.items +◌) c.bit.ensures ∙ sym (set_bit s.args.items s.args.i (octet_lt s.ranges.items) i.if1.true (sym p.present.ensures ∙ e.if2.false)).0
 
-returns-3 : tie.Need-returns-3
-returns-3 c = let s = c.before in sym (set_past s.args.items s.args.i 1 (octet-lt s.ranges.items) c.if1.false)
+returns_3 : tie.Need-returns-3
+returns_3 c = let s = c.before in sym (set_past s.args.items s.args.i 1 (octet_lt s.ranges.items) c.if1.false)
 
-pub with-item-spec : {M : Type 1} → statement M
-with-item-spec = tie.close (tie.spec (λ c κs. search rules) returns (λ c κs. search rules) add-result returns-2 returns-3)
+pub with_item_spec : {M : Type 1} → statement M
+with_item_spec = tie.close (tie.spec (λ c κs. search rules) returns (λ c κs. search rules) add_result returns_2 returns_3)

@@ -2,28 +2,28 @@
 use mathlib.Core.Path.{◌∙◌}
 use native.Mathlib.Omega.{arith}
 use borrow.Author.Rules.{rules}
-use Rattle.hex.specs.Laws.Octets.{octets-sign, octets-empty, octets-long, octets-odd, octets-even}
+use Rattle.hex.specs.Laws.Octets.{octets_sign, octets_empty, octets_long, octets_odd, octets_even}
 use Rattle.hex.proofs.is_octets.Statement.{statement}
 use Rattle.hex.proofs.is_octets.Tie as tie
 
 returns : tie.Need-returns
-returns c = octets-sign c.before.before.before.args.word.now c.before.if1.true
+returns c = octets_sign c.before.before.before.args.word.now c.before.if1.true
 
-returns-2 : tie.Need-returns-2
-returns-2 c = let i = c.before in octets-empty i.before.before.args.word.now i.if1.false c.if2.true
+returns_2 : tie.Need-returns-2
+returns_2 c = let i = c.before in octets_empty i.before.before.args.word.now i.if1.false c.if2.true
 
-returns-3 : tie.Need-returns-3
-returns-3 c = let i = c.before.before in octets-long i.before.before.args.word.now i.if1.false (omega arith) c.if3.true
+returns_3 : tie.Need-returns-3
+returns_3 c = let i = c.before.before in octets_long i.before.before.args.word.now i.if1.false (omega arith) c.if3.true
 
-returns-4 : tie.Need-returns-4
-returns-4 c =
+returns_4 : tie.Need-returns-4
+returns_4 c =
     let i = c.before.before.before in
-    octets-odd i.before.before.args.word.now i.if1.false (omega arith) (omega arith) c.if4.true
+    octets_odd i.before.before.args.word.now i.if1.false (omega arith) (omega arith) c.if4.true
 
-returns-5 : tie.Need-returns-5
-returns-5 c =
+returns_5 : tie.Need-returns-5
+returns_5 c =
     let i = c.before.before.before.before in
-    c.are-hex.ensures ∙ octets-even i.before.before.args.word.now i.if1.false (omega arith) (omega arith) c.before.if4.false
+    c.are-hex.ensures ∙ octets_even i.before.before.args.word.now i.if1.false (omega arith) (omega arith) c.before.if4.false
 
-pub is-octets-spec : {M : Type 1} → statement M
-is-octets-spec = tie.close (tie.spec (λ c. search rules) returns returns-2 (λ c. search rules) returns-3 returns-4 (λ c κs. tt) returns-5)
+pub is_octets_spec : {M : Type 1} → statement M
+is_octets_spec = tie.close (tie.spec (λ c. search rules) returns returns_2 (λ c. search rules) returns_3 returns_4 (λ c κs. tt) returns_5)

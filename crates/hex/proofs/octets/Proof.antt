@@ -1,27 +1,27 @@
 -- `hex::octets` meets its contract: one law at each way out. Assumes nothing.
 use mathlib.Core.Path.{◌∙◌, sym}
-use Rattle.hex.specs.Laws.Octets.{octets-most, octets-there, octets-none}
+use Rattle.hex.specs.Laws.Octets.{octets_most, octets_there, octets_none}
 use Rattle.hex.proofs.octets.Statement.{statement}
 use Rattle.hex.proofs.octets.Tie as tie
 
-lay-requires : tie.Need-lay-requires
-lay-requires c κs =
+lay_requires : tie.Need-lay-requires
+lay_requires c κs =
     let i = c.before in
     let o = i.before in
-    octets-most o.before.before.args.word.now (sym o.is-octets.ensures ∙ i.if1.true)
+    octets_most o.before.before.args.word.now (sym o.is-octets.ensures ∙ i.if1.true)
 
 returns : tie.Need-returns
 returns c =
     let i = c.before.before in
     let o = i.before in
     let a = o.before.before.args in
-    octets-there a.word.now a.out.now (sym o.is-octets.ensures ∙ i.if1.true) c.lay.ensures
+    octets_there a.word.now a.out.now (sym o.is-octets.ensures ∙ i.if1.true) c.lay.ensures
 
-returns-2 : tie.Need-returns-2
-returns-2 c =
+returns_2 : tie.Need-returns-2
+returns_2 c =
     let o = c.before in
     let a = o.before.before.args in
-    octets-none a.word.now a.out.now (sym o.is-octets.ensures ∙ c.if1.false)
+    octets_none a.word.now a.out.now (sym o.is-octets.ensures ∙ c.if1.false)
 
-pub octets-spec : {M : Type 1} → statement M
-octets-spec = tie.close (tie.spec (λ c κs. tt) lay-requires returns returns-2)
+pub octets_spec : {M : Type 1} → statement M
+octets_spec = tie.close (tie.spec (λ c κs. tt) lay_requires returns returns_2)

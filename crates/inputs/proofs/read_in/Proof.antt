@@ -7,18 +7,18 @@ use lib.ListN.{length}
 use Rattle.inputs.proofs.read_in.Statement.{statement}
 use Rattle.inputs.proofs.read_in.Tie as tie
 
-abbrev invariant-loop : tie.invariant-loop
-invariant-loop input₀ done₀ input done = (length input ≡ length input₀) × (done ≤ length input₀)
+abbrev invariant_loop : tie.invariant-loop
+invariant_loop input₀ done₀ input done = (length input ≡ length input₀) × (done ≤ length input₀)
 
-abbrev decreases-loop : tie.decreases-loop
-decreases-loop input₀ done₀ input done = length input₀ - done
+abbrev decreases_loop : tie.decreases-loop
+decreases_loop input₀ done₀ input done = length input₀ - done
 
-pub read-in-spec : {M : Type 1} → statement M
-read-in-spec =
+pub read_in_spec : {M : Type 1} → statement M
+read_in_spec =
     tie.close
     (tie.spec
-    invariant-loop
-    decreases-loop
+    invariant_loop
+    decreases_loop
     (λ c. (refl, omega arith))
     (λ c. search rules)
     (λ c. search rules)

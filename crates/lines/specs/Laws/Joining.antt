@@ -6,48 +6,48 @@ use Rattle.std.proofs.Math.Numerals.{add-one}
 use borrow.Author.Tests.{lt-ltb, le-ltb, eq-eqb, ne_eqb}
 use Rattle.std.proofs.Math.ListN.{length}
 use Rattle.codec.specs.Pick.{pick}
-use Rattle.lines.specs.Joining.{more, put_in, Keeps, join_of, lineAfter}
+use Rattle.lines.specs.Joining.{more, put_in, Keeps, join_of, line_after}
 use Rattle.lines.specs.declared.Joined.{Joined}
 
 -- ---- of `keep`
 
-pub keep-there : (line : List ℕ) (n o : ℕ) → n < length line → Keeps line n o (n + 1) (set line n o)
+pub keep_there : (line : List ℕ) (n o : ℕ) → n < length line → Keeps line n o (n + 1) (set line n o)
 unfolding more put_in
-keep-there line n o h = (rw (lt-ltb n (length line) h) refl, rw (lt-ltb n (length line) h) refl)
+keep_there line n o h = (rw (lt-ltb n (length line) h) refl, rw (lt-ltb n (length line) h) refl)
 
-pub keep-full : (line : List ℕ) (n o : ℕ) → length line ≤ n → Keeps line n o n line
+pub keep_full : (line : List ℕ) (n o : ℕ) → length line ≤ n → Keeps line n o n line
 unfolding more put_in
-keep-full line n o h = (rw (le-ltb n (length line) h) refl, rw (le-ltb n (length line) h) refl)
+keep_full line n o h = (rw (le-ltb n (length line) h) refl, rw (le-ltb n (length line) h) refl)
 
-pub put-length : (room : ℕ) (line : List ℕ) (n o : ℕ) → length (put_in room line n o) ≡ length line
+pub put_length : (room : ℕ) (line : List ℕ) (n o : ℕ) → length (put_in room line n o) ≡ length line
 unfolding put_in
-put-length room line n o = by-room (ltb n room)
+put_length room line n o = by_room (ltb n room)
   where
-    by-room : (b : Bool) → length (pick b (set line n o) line) ≡ length line
-    by-room true = length-set line n o
-    by-room false = refl
+    by_room : (b : Bool) → length (pick b (set line n o) line) ≡ length line
+    by_room true = length-set line n o
+    by_room false = refl
 
 -- ---- of `join`: the octets from a place on
 
 module _ (room : ℕ) (s : List ℕ) (at n : ℕ) (line : List ℕ) where
   abbrev pub JoinsTo : Joined → List ℕ → Type 0
-  JoinsTo j m = (j ≡ join_of room (drop at s) n at) × (m ≡ lineAfter room (drop at s) n line)
+  JoinsTo j m = (j ≡ join_of room (drop at s) n at) × (m ≡ line_after room (drop at s) n line)
 
-  pub join-end : length s ≤ at → JoinsTo (record { at = at; held = n; ended = false }) line
-  unfolding join_of lineAfter
-  join-end h = (rw (drop_of_length-le s {i = at} h) refl, rw (drop_of_length-le s {i = at} h) refl)
+  pub join_end : length s ≤ at → JoinsTo (record { at = at; held = n; ended = false }) line
+  unfolding join_of line_after
+  join_end h = (rw (drop_of_length-le s {i = at} h) refl, rw (drop_of_length-le s {i = at} h) refl)
 
-  pub join-feed : at < length s → get_or s at 0 ≡ 10 → JoinsTo (record { at = at + 1; held = n; ended = true }) line
-  unfolding join_of lineAfter
-  join-feed h e = (rw (drop-cons s at 0 h, eq-eqb (get_or s at 0) 10 e) refl, rw (drop-cons s at 0 h, eq-eqb (get_or s at 0) 10 e) refl)
+  pub join_feed : at < length s → get_or s at 0 ≡ 10 → JoinsTo (record { at = at + 1; held = n; ended = true }) line
+  unfolding join_of line_after
+  join_feed h e = (rw (drop-cons s at 0 h, eq-eqb (get_or s at 0) 10 e) refl, rw (drop-cons s at 0 h, eq-eqb (get_or s at 0) 10 e) refl)
 
   pub join_more : length line ≡ room → at < length s → (get_or s at 0 ≡ 10 → ⊥) → {m : ℕ} {line' : List ℕ} → Keeps line n (get_or s at 0) m line'
-      → (length line' ≡ room) × (join_of room (drop at s) n at ≡ join_of room (drop (at + 1) s) m (at + 1)) × (lineAfter room (drop at s) n line ≡ lineAfter room (drop (at + 1) s) m line')
-  unfolding join_of lineAfter
+      → (length line' ≡ room) × (join_of room (drop at s) n at ≡ join_of room (drop (at + 1) s) m (at + 1)) × (line_after room (drop at s) n line ≡ line_after room (drop (at + 1) s) m line')
+  unfolding join_of line_after
   join_more l h e {m} {line'} x =
       let p : line' ≡ put_in room line n (get_or s at 0) = x.1 ∙ ap (λ r. put_in r line n (get_or s at 0)) l in
       let q : m ≡ more room n = x.0 ∙ ap (λ r. more r n) l in (
-        ap length p ∙ put-length room line n (get_or s at 0) ∙ l,
+        ap length p ∙ put_length room line n (get_or s at 0) ∙ l,
         rw (drop-cons s at 0 h, ne_eqb (get_or s at 0) 10 e, q, add-one at) refl,
         rw (drop-cons s at 0 h, ne_eqb (get_or s at 0) 10 e, p, q, add-one at) refl,
       )

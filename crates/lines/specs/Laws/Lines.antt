@@ -8,7 +8,7 @@ use Rattle.std.proofs.Math.Seq.{take-append_seam}
 use Rattle.std.proofs.lemmas.List.{set_split}
 use Rattle.codec.specs.Pick.{pick}
 use Rattle.lines.specs.Lines.{ended, left, held}
-use Rattle.lines.specs.Joining.{more, put_in, join_of, lineAfter}
+use Rattle.lines.specs.Joining.{more, put_in, join_of, line_after}
 use Rattle.lines.specs.declared.Joined.{Joined}
 
 -- ---- what an array with n octets in its front holds of a line
@@ -18,8 +18,8 @@ pub record Holds (array : List ℕ) (n : ℕ) (line : List ℕ) : Type 0 where
   pub count : n ≡ length (held line)
   pub octets : take n array ≡ held line
 
-pub holds-none : (array : List ℕ) → length array ≡ 16_385 → Holds array 0 []
-holds-none array e = record { room = e; count = refl; octets = refl }
+pub holds_none : (array : List ℕ) → length array ≡ 16_385 → Holds array 0 []
+holds_none array e = record { room = e; count = refl; octets = refl }
 
 take_left : (n : ℕ) (xs ys : List ℕ) → n ≤ length xs → take n (xs ++ ys) ≡ take n xs
 take_left zero xs ys h = refl
@@ -27,8 +27,8 @@ take_left (suc n) [] ys h = absurd (omega arith)
 take_left (suc n) (x ∷ xs) ys h = ap (λ t. x ∷ t) (take_left n xs ys (omega arith))
 
 module _ {array : List ℕ} {n : ℕ} {line : List ℕ} (x : Holds array n line) (o : ℕ) where
-  with-room : n < 16_385 → Holds (set array n o) (n + 1) (line ++ (o ∷ []))
-  with-room h =
+  with_room_lem : n < 16_385 → Holds (set array n o) (n + 1) (line ++ (o ∷ []))
+  with_room_lem h =
       let s : length line ≤ 16_385 = omega (arith, x.count, length-take 16_385 line) in
       let w : held line ≡ line = take_all 16_385 line s in
       let c : n ≡ length line = x.count ∙ ap length w in
@@ -41,18 +41,18 @@ module _ {array : List ℕ} {n : ℕ} {line : List ℕ} (x : Holds array n line)
         octets = ap₂ take (sym l) p ∙ take-append_seam (line ++ (o ∷ [])) (drop (suc n) array) ∙ sym k;
       }
 
-  without-room : 16_385 ≤ n → Holds array n (line ++ (o ∷ []))
-  without-room h =
+  without_room : 16_385 ≤ n → Holds array n (line ++ (o ∷ []))
+  without_room h =
       let k : held (line ++ (o ∷ [])) ≡ held line = take_left 16_385 line (o ∷ []) (omega (arith, x.count, length-take 16_385 line)) in
       record { room = x.room; count = x.count ∙ ap length (sym k); octets = x.octets ∙ sym k }
 
   holds_more : Holds (put_in 16_385 array n o) (more 16_385 n) (line ++ (o ∷ []))
   unfolding put_in more
-  holds_more = by-room (ltb n 16_385) refl
+  holds_more = by_room (ltb n 16_385) refl
     where
-      by-room : (b : Bool) → ltb n 16_385 ≡ b → Holds (pick b (set array n o) array) (pick b (n + 1) n) (line ++ (o ∷ []))
-      by-room true t = with-room (ltb-true n 16_385 t)
-      by-room false t = without-room (ltb-false n 16_385 t)
+      by_room : (b : Bool) → ltb n 16_385 ≡ b → Holds (pick b (set array n o) array) (pick b (n + 1) n) (line ++ (o ∷ []))
+      by_room true t = with_room_lem (ltb-true n 16_385 t)
+      by_room false t = without_room (ltb-false n 16_385 t)
 
 -- ---- one turn: s the octets from place at on, h the line that stands before them
 
@@ -69,54 +69,54 @@ pub record GoesOn (j : Joined) (array h s : List ℕ) (at : ℕ) : Type 0 where
   pub stands : Holds array j.held (left h s)
   pub all : j.at ≡ at + length s
 
-place-later : (room : ℕ) (s : List ℕ) (n at : ℕ) → at ≤ (join_of room s n at).at
+place_later : (room : ℕ) (s : List ℕ) (n at : ℕ) → at ≤ (join_of room s n at).at
 unfolding join_of
-place-later room [] n at = omega arith
-place-later room (o ∷ s) n at = by-feed (eqb o 10) (place-later room s (more room n) (at + 1))
+place_later room [] n at = omega arith
+place_later room (o ∷ s) n at = by_feed (eqb o 10) (place_later room s (more room n) (at + 1))
   where
-    by-feed : (b : Bool) → at + 1 ≤ (join_of room s (more room n) (at + 1)).at → at ≤ (pick b (record { at = at + 1; held = n; ended = true }) (join_of room s (more room n) (at + 1))).at
-    by-feed true h = omega arith
-    by-feed false h = omega arith
+    by_feed : (b : Bool) → at + 1 ≤ (join_of room s (more room n) (at + 1)).at → at ≤ (pick b (record { at = at + 1; held = n; ended = true }) (join_of room s (more room n) (at + 1))).at
+    by_feed true h = omega arith
+    by_feed false h = omega arith
 
-pub place-further : (room : ℕ) (s : List ℕ) (n at : ℕ) → 0 < length s → at < (join_of room s n at).at
+pub place_further : (room : ℕ) (s : List ℕ) (n at : ℕ) → 0 < length s → at < (join_of room s n at).at
 unfolding join_of
-place-further room [] n at h = absurd (omega arith)
-place-further room (o ∷ s) n at h = by-feed (eqb o 10) (place-later room s (more room n) (at + 1))
+place_further room [] n at h = absurd (omega arith)
+place_further room (o ∷ s) n at h = by_feed (eqb o 10) (place_later room s (more room n) (at + 1))
   where
-    by-feed : (b : Bool) → at + 1 ≤ (join_of room s (more room n) (at + 1)).at → at < (pick b (record { at = at + 1; held = n; ended = true }) (join_of room s (more room n) (at + 1))).at
-    by-feed true h = omega arith
-    by-feed false h = omega arith
+    by_feed : (b : Bool) → at + 1 ≤ (join_of room s (more room n) (at + 1)).at → at < (pick b (record { at = at + 1; held = n; ended = true }) (join_of room s (more room n) (at + 1))).at
+    by_feed true h = omega arith
+    by_feed false h = omega arith
 
 -- the octets behind an octet
 behind : (o : ℕ) (s : List ℕ) (at : ℕ) {place : ℕ} → at + 1 ≤ place → drop (place - at) (o ∷ s) ≡ drop (place - (at + 1)) s
 behind o s at {place} h = let e : place - at ≡ suc (place - (at + 1)) = omega arith in rw e refl
 
-pub join-ends : (s : List ℕ) {array : List ℕ} {n : ℕ} {h : List ℕ} → Holds array n h → (at : ℕ) → (join_of 16_385 s n at).ended ≡ true → Ends (join_of 16_385 s n at) (lineAfter 16_385 s n array) h s at
-unfolding join_of lineAfter ended left
-join-ends [] x at e = let z : ◌≡◌ {A = ℕ} 0 1 = cc in absurd (omega arith)
-join-ends (o ∷ s) {array} {n} {h} x at e = by-feed (eqb o 10) refl e (join-ends s (holds_more x o) (at + 1))
+pub join_ends : (s : List ℕ) {array : List ℕ} {n : ℕ} {h : List ℕ} → Holds array n h → (at : ℕ) → (join_of 16_385 s n at).ended ≡ true → Ends (join_of 16_385 s n at) (line_after 16_385 s n array) h s at
+unfolding join_of line_after ended left
+join_ends [] x at e = let z : ◌≡◌ {A = ℕ} 0 1 = cc in absurd (omega arith)
+join_ends (o ∷ s) {array} {n} {h} x at e = by_feed (eqb o 10) refl e (join_ends s (holds_more x o) (at + 1))
   where
-    by-feed : (b : Bool) → eqb o 10 ≡ b → (pick b (record { at = at + 1; held = n; ended = true }) (join_of 16_385 s (more 16_385 n) (at + 1))).ended ≡ true
-        → ((join_of 16_385 s (more 16_385 n) (at + 1)).ended ≡ true → Ends (join_of 16_385 s (more 16_385 n) (at + 1)) (lineAfter 16_385 s (more 16_385 n) (put_in 16_385 array n o)) (h ++ (o ∷ [])) s (at + 1))
-        → Ends (join_of 16_385 (o ∷ s) n at) (lineAfter 16_385 (o ∷ s) n array) h (o ∷ s) at
-    by-feed true t e ih =
+    by_feed : (b : Bool) → eqb o 10 ≡ b → (pick b (record { at = at + 1; held = n; ended = true }) (join_of 16_385 s (more 16_385 n) (at + 1))).ended ≡ true
+        → ((join_of 16_385 s (more 16_385 n) (at + 1)).ended ≡ true → Ends (join_of 16_385 s (more 16_385 n) (at + 1)) (line_after 16_385 s (more 16_385 n) (put_in 16_385 array n o)) (h ++ (o ∷ [])) s (at + 1))
+        → Ends (join_of 16_385 (o ∷ s) n at) (line_after 16_385 (o ∷ s) n array) h (o ∷ s) at
+    by_feed true t e ih =
         let z : at + 1 - at ≡ 1 = omega arith in
         rw t (record { line = h; stands = x; first = rw (t, z) refl; rest = rw (t, z) refl })
-    by-feed false t e ih =
+    by_feed false t e ih =
         let y = ih e in
-        let b = behind o s at (place-later 16_385 s (more 16_385 n) (at + 1)) in
+        let b = behind o s at (place_later 16_385 s (more 16_385 n) (at + 1)) in
         rw t (record { line = y.line; stands = y.stands; first = rw (t, b) y.first; rest = rw (t, b) y.rest })
 
-pub join-goes-on : (s : List ℕ) {array : List ℕ} {n : ℕ} {h : List ℕ} → Holds array n h → (at : ℕ) → (join_of 16_385 s n at).ended ≡ false → GoesOn (join_of 16_385 s n at) (lineAfter 16_385 s n array) h s at
-unfolding join_of lineAfter ended left
-join-goes-on [] x at e = record { none = refl; stands = x; all = omega arith }
-join-goes-on (o ∷ s) {array} {n} {h} x at e = by-feed (eqb o 10) refl e (join-goes-on s (holds_more x o) (at + 1))
+pub join-goes_on : (s : List ℕ) {array : List ℕ} {n : ℕ} {h : List ℕ} → Holds array n h → (at : ℕ) → (join_of 16_385 s n at).ended ≡ false → GoesOn (join_of 16_385 s n at) (line_after 16_385 s n array) h s at
+unfolding join_of line_after ended left
+join-goes_on [] x at e = record { none = refl; stands = x; all = omega arith }
+join-goes_on (o ∷ s) {array} {n} {h} x at e = by_feed (eqb o 10) refl e (join-goes_on s (holds_more x o) (at + 1))
   where
-    by-feed : (b : Bool) → eqb o 10 ≡ b → (pick b (record { at = at + 1; held = n; ended = true }) (join_of 16_385 s (more 16_385 n) (at + 1))).ended ≡ false
-        → ((join_of 16_385 s (more 16_385 n) (at + 1)).ended ≡ false → GoesOn (join_of 16_385 s (more 16_385 n) (at + 1)) (lineAfter 16_385 s (more 16_385 n) (put_in 16_385 array n o)) (h ++ (o ∷ [])) s (at + 1))
-        → GoesOn (join_of 16_385 (o ∷ s) n at) (lineAfter 16_385 (o ∷ s) n array) h (o ∷ s) at
-    by-feed true t e ih = let z : ◌≡◌ {A = ℕ} 0 1 = cc in absurd (omega arith)
-    by-feed false t e ih =
+    by_feed : (b : Bool) → eqb o 10 ≡ b → (pick b (record { at = at + 1; held = n; ended = true }) (join_of 16_385 s (more 16_385 n) (at + 1))).ended ≡ false
+        → ((join_of 16_385 s (more 16_385 n) (at + 1)).ended ≡ false → GoesOn (join_of 16_385 s (more 16_385 n) (at + 1)) (line_after 16_385 s (more 16_385 n) (put_in 16_385 array n o)) (h ++ (o ∷ [])) s (at + 1))
+        → GoesOn (join_of 16_385 (o ∷ s) n at) (line_after 16_385 (o ∷ s) n array) h (o ∷ s) at
+    by_feed true t e ih = let z : ◌≡◌ {A = ℕ} 0 1 = cc in absurd (omega arith)
+    by_feed false t e ih =
         let y = ih e in
         rw t (record { none = rw t y.none; stands = rw t y.stands; all = omega (arith, y.all) })
 
@@ -125,19 +125,19 @@ join-goes-on (o ∷ s) {array} {n} {h} x at e = by-feed (eqb o 10) refl e (join-
 pub reads_end : (h a b : List ℕ) → ended h (a ++ b) ≡ ended h a ++ ended (left h a) b
 unfolding ended left
 reads_end h [] b = refl
-reads_end h (o ∷ a) b = by-feed (eqb o 10) (reads_end [] a b) (reads_end (h ++ (o ∷ [])) a b)
+reads_end h (o ∷ a) b = by_feed (eqb o 10) (reads_end [] a b) (reads_end (h ++ (o ∷ [])) a b)
   where
-    by-feed : (t : Bool) → ended [] (a ++ b) ≡ ended [] a ++ ended (left [] a) b → ended (h ++ (o ∷ [])) (a ++ b) ≡ ended (h ++ (o ∷ [])) a ++ ended (left (h ++ (o ∷ [])) a) b
+    by_feed : (t : Bool) → ended [] (a ++ b) ≡ ended [] a ++ ended (left [] a) b → ended (h ++ (o ∷ [])) (a ++ b) ≡ ended (h ++ (o ∷ [])) a ++ ended (left (h ++ (o ∷ [])) a) b
         → pick t (h ∷ ended [] (a ++ b)) (ended (h ++ (o ∷ [])) (a ++ b)) ≡ pick t (h ∷ ended [] a) (ended (h ++ (o ∷ [])) a) ++ ended (pick t (left [] a) (left (h ++ (o ∷ [])) a)) b
-    by-feed true e f = ap (λ l. h ∷ l) e
-    by-feed false e f = f
+    by_feed true e f = ap (λ l. h ∷ l) e
+    by_feed false e f = f
 
-pub reads-left : (h a b : List ℕ) → left h (a ++ b) ≡ left (left h a) b
+pub reads_left : (h a b : List ℕ) → left h (a ++ b) ≡ left (left h a) b
 unfolding left
-reads-left h [] b = refl
-reads-left h (o ∷ a) b = by-feed (eqb o 10) (reads-left [] a b) (reads-left (h ++ (o ∷ [])) a b)
+reads_left h [] b = refl
+reads_left h (o ∷ a) b = by_feed (eqb o 10) (reads_left [] a b) (reads_left (h ++ (o ∷ [])) a b)
   where
-    by-feed : (t : Bool) → left [] (a ++ b) ≡ left (left [] a) b → left (h ++ (o ∷ [])) (a ++ b) ≡ left (left (h ++ (o ∷ [])) a) b
+    by_feed : (t : Bool) → left [] (a ++ b) ≡ left (left [] a) b → left (h ++ (o ∷ [])) (a ++ b) ≡ left (left (h ++ (o ∷ [])) a) b
         → pick t (left [] (a ++ b)) (left (h ++ (o ∷ [])) (a ++ b)) ≡ left (pick t (left [] a) (left (h ++ (o ∷ [])) a)) b
-    by-feed true e f = e
-    by-feed false e f = f
+    by_feed true e f = e
+    by_feed false e f = f

@@ -2,18 +2,18 @@
 use mathlib.Core.Path.{sym}
 use borrow.Author.Rules.{rules}
 use lib.Seq.{length-take-le}
-use Rattle.inputs.specs.Inputs.{octets-within}
+use Rattle.inputs.specs.Inputs.{octets_within}
 use Rattle.listing.proofs.main.Statement.{statement}
 use Rattle.listing.proofs.main.Tie as tie
 
-array-share-prefix-input : tie.Need-array-share-prefix-input
-array-share-prefix-input c = let n = c.before in octets-within n.n.given.1 n.before.before.before.read-in.ensures
+array_share_prefix_input : tie.Need-array-share-prefix-input
+array_share_prefix_input c = let n = c.before in octets_within n.n.given.1 n.before.before.before.read-in.ensures
 
-slice-aggregate-listed : tie.Need-slice-aggregate-listed
-slice-aggregate-listed c = let i = c.before in sym (length-take-le _ _ (array-share-prefix-input i))
+slice_aggregate_listed : tie.Need-slice-aggregate-listed
+slice_aggregate_listed c = let i = c.before in sym (length-take-le _ _ (array_share_prefix_input i))
 
-slice-aggregate-write-all : tie.Need-slice-aggregate-write-all-2
-slice-aggregate-write-all c = let k = c.before.before.listed in sym (length-take-le k.result k.new.1.0 k.ensures.0)
+slice_aggregate_write_all : tie.Need-slice-aggregate-write-all-2
+slice_aggregate_write_all c = let k = c.before.before.listed in sym (length-take-le k.result k.new.1.0 k.ensures.0)
 
 pub main_spec : {M : Type 1} → statement M
 main_spec =
@@ -26,12 +26,12 @@ main_spec =
     (λ c. search rules)
     (λ c κs. tt)
     (λ c. tt)
-    array-share-prefix-input
-    slice-aggregate-listed
+    array_share_prefix_input
+    slice_aggregate_listed
     (λ c. search rules)
     (λ c κs. search rules)
     (λ c. search rules)
-    slice-aggregate-write-all
+    slice_aggregate_write_all
     (λ c κs. tt)
     (λ c. search rules)
     (λ c κs. tt)

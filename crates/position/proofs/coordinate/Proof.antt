@@ -8,20 +8,20 @@ use mir.Syntax.{w64}
 use mir.Val.{SFits, to_z, of_z}
 use mir.Facts.{to_z-of_z, sfits_widen}
 use Rattle.papers.specs.Names.{text}
-use Rattle.scope.specs.Sheet.{keyLine, signedDecimal}
+use Rattle.scope.specs.Sheet.{key_line, signed_decimal}
 use Rattle.text.specs.Typing.{Types}
-use Rattle.text.specs.Laws.Typing.{types-as, types-behind}
+use Rattle.text.specs.Laws.Typing.{types_as, types_behind}
 use Rattle.position.proofs.coordinate.Statement.{statement}
 use Rattle.position.proofs.coordinate.Tie as tie
 
-cast-line : tie.Need-overflow-cast-line
-cast-line c =
+cast_line : tie.Need-overflow-cast-line
+cast_line c =
     let s = c.before.before.before in
     rw (to_z-of_z s.ranges.n) (sfits_widen tt s.ranges.n)
 
 -- the line of z as the machine has it
-typed : (k : List ℕ) (z : ℤ) → SFits w64 z → {l m : List ℕ} {at next : ℕ} → Types (keyLine k (signedDecimal (to_z w64 (of_z w64 z)))) l at m next → Types (keyLine k (signedDecimal z)) l at m next
-typed k z f a = types-as (ap (λ x. keyLine k (signedDecimal x)) (to_z-of_z f)) a
+typed : (k : List ℕ) (z : ℤ) → SFits w64 z → {l m : List ℕ} {at next : ℕ} → Types (key_line k (signed_decimal (to_z w64 (of_z w64 z)))) l at m next → Types (key_line k (signed_decimal z)) l at m next
+typed k z f a = types_as (ap (λ x. key_line k (signed_decimal x)) (to_z-of_z f)) a
 
 returns : tie.Need-returns
 returns c =
@@ -30,10 +30,10 @@ returns c =
     let s = n.before.before.before.before.before in
     let a = s.args in
     let key = a.name.now ++ a.more.now in
-    types-behind (types-as (ap (λ k. keyLine k (signedDecimal a.n)) (append-nil key)) (typed (key ++ []) a.n (sfits_widen tt s.ranges.n) (rw (to_z-of_z s.ranges.n) at n.line.ensures)))
-    (types-behind (typed (key ++ text ".udeg") a.udeg s.ranges.udeg u.line2.ensures) (typed (key ++ text ".left") a.left s.ranges.left c.line3.ensures))
+    types_behind (types_as (ap (λ k. key_line k (signed_decimal a.n)) (append-nil key)) (typed (key ++ []) a.n (sfits_widen tt s.ranges.n) (rw (to_z-of_z s.ranges.n) at n.line.ensures)))
+    (types_behind (typed (key ++ text ".udeg") a.udeg s.ranges.udeg u.line2.ensures) (typed (key ++ text ".left") a.left s.ranges.left c.line3.ensures))
 
-pub coordinate-spec : {M : Type 1} → statement M
-coordinate-spec =
+pub coordinate_spec : {M : Type 1} → statement M
+coordinate_spec =
     tie.close
-    (tie.spec (λ c. search rules) cast-line (λ c κs. tt) (λ c. search rules) (λ c κs. tt) (λ c. search rules) (λ c κs. tt) returns)
+    (tie.spec (λ c. search rules) cast_line (λ c κs. tt) (λ c. search rules) (λ c κs. tt) (λ c. search rules) (λ c κs. tt) returns)

@@ -10,33 +10,33 @@ use mir.Syntax.{w32, w64}
 use mir.Val.{SFits}
 use mir.Facts.{to_z-of_z, sfits_widen}
 use Rattle.papers.specs.Names.{text}
-use Rattle.scope.specs.Pressure.{tenthsOf, senseOf}
-use Rattle.scope.specs.Sheet.{signedDecimal}
-use Rattle.text.specs.Laws.Typing.{types-behind, types-key}
+use Rattle.scope.specs.Pressure.{tenths_of, sense_of}
+use Rattle.scope.specs.Sheet.{signed_decimal}
+use Rattle.text.specs.Laws.Typing.{types_behind, types_key}
 use Rattle.pressure.proofs.lines.Statement.{statement}
 use Rattle.pressure.proofs.lines.Tie as tie
 
-tenths-size : (z : ℤ) → mag (tenthsOf z) ≤ 8_000 + mag z
-tenths-size (pos n) = omega arith
-tenths-size (negsuc n) = go (ltb 8_000 (suc n))
+tenths_size : (z : ℤ) → mag (tenths_of z) ≤ 8_000 + mag z
+tenths_size (pos n) = omega arith
+tenths_size (negsuc n) = go (ltb 8_000 (suc n))
   where
     go : (t : Bool) → mag (cond t (negsuc (suc n - suc 8_000)) (pos (8_000 - suc n))) ≤ 8_000 + n
     go true = omega arith
     go false = omega arith
 
-tenths-fit : (z : ℤ) → SFits w32 z → SFits w64 (tenthsOf z)
-tenths-fit z f = let g : mag z < 2_147_483_648 = f.sfits in record { sfits = omega (arith, tenths-size z) }
+tenths_fit : (z : ℤ) → SFits w32 z → SFits w64 (tenths_of z)
+tenths_fit z f = let g : mag z < 2_147_483_648 = f.sfits in record { sfits = omega (arith, tenths_size z) }
 
-cast-number : tie.Need-overflow-cast-number
-cast-number c =
+cast_number : tie.Need-overflow-cast-number
+cast_number c =
     let f = c.before.ranges.n in
     rw (to_z-of_z f) (sfits_widen tt f)
 
-add-tenths : tie.Need-overflow-add-tenths
-add-tenths c =
+add_tenths : tie.Need-overflow-add-tenths
+add_tenths c =
     let s = c.before in
     let f = s.ranges.n in
-    rw (to_z-of_z f, to_z-of_z {w = w64} {z = s.args.n} (sfits_widen tt f)) (tenths-fit s.args.n f)
+    rw (to_z-of_z f, to_z-of_z {w = w64} {z = s.args.n} (sfits_widen tt f)) (tenths_fit s.args.n f)
 
 returns : tie.Need-returns
 returns c =
@@ -48,10 +48,10 @@ returns c =
     let name = s.args.name.now in
     let z = s.args.n in
     let wide = to_z-of_z {w = w64} {z = z} (sfits_widen tt f) in
-    types-behind (types-key name (text ".tenths") (signedDecimal (tenthsOf z)) v.word.ensures
-    (rw (to_z-of_z f, wide, to_z-of_z {w = w64} {z = tenthsOf z} (tenths-fit z f)) at p.signed-pair.ensures))
-    (types-key name (text ".sense") (senseOf z) w.word2.ensures (rw (to_z-of_z f, wide) at c.sense.ensures))
+    types_behind (types_key name (text ".tenths") (signed_decimal (tenths_of z)) v.word.ensures
+    (rw (to_z-of_z f, wide, to_z-of_z {w = w64} {z = tenths_of z} (tenths_fit z f)) at p.signed-pair.ensures))
+    (types_key name (text ".sense") (sense_of z) w.word2.ensures (rw (to_z-of_z f, wide) at c.sense.ensures))
 
-pub lines-spec : {M : Type 1} → statement M
-lines-spec =
-    tie.close (tie.spec cast-number add-tenths (λ c κs. tt) (λ c. search rules) (λ c κs. tt) (λ c κs. tt) (λ c. search rules) (λ c κs. tt) returns)
+pub lines_spec : {M : Type 1} → statement M
+lines_spec =
+    tie.close (tie.spec cast_number add_tenths (λ c κs. tt) (λ c. search rules) (λ c κs. tt) (λ c κs. tt) (λ c. search rules) (λ c κs. tt) returns)

@@ -9,9 +9,9 @@ use lib.Dec.{ltb}
 use lib.IntN.{pos}
 use lib.Signed.{lt_z}
 use Rattle.words.specs.Numbers.{is_number, is_signed, number_in}
-use Rattle.words.specs.Laws.Numbers.{number_fits, signed-fits}
+use Rattle.words.specs.Laws.Numbers.{number_fits, signed_fits}
 use Rattle.protocol.specs.Forms.{fits}
-use Rattle.protocol.specs.Laws.Forms.{fits-other, not-not}
+use Rattle.protocol.specs.Laws.Forms.{fits_other, not_not}
 use Rattle.protocol.proofs.fits.Statement.{statement}
 use Rattle.protocol.proofs.fits.Tie as tie
 
@@ -24,46 +24,46 @@ unfolding fits
 returns c = let m = c.before in let w = m.before.before.args.word.now in
     within 255 w c.number.ensures ∙ sym (ap (λ k. fits k w) m.match.keys1)
 
-returns-2 : tie.Need-returns-2
+returns_2 : tie.Need-returns-2
 unfolding fits
-returns-2 c = let m = c.before in c.is-octets.ensures ∙ sym (ap (λ k. fits k m.before.before.args.word.now) m.match.keys2)
+returns_2 c = let m = c.before in c.is-octets.ensures ∙ sym (ap (λ k. fits k m.before.before.args.word.now) m.match.keys2)
 
-returns-3 : tie.Need-returns-3
+returns_3 : tie.Need-returns-3
 unfolding fits
-returns-3 c = let m = c.before in c.is-list.ensures ∙ sym (ap (λ k. fits k m.before.before.args.word.now) m.match.keys3)
+returns_3 c = let m = c.before in c.is-list.ensures ∙ sym (ap (λ k. fits k m.before.before.args.word.now) m.match.keys3)
 
-returns-4 : tie.Need-returns-4
+returns_4 : tie.Need-returns-4
 unfolding fits
-returns-4 c = let m = c.before in let w = m.before.before.args.word.now in
+returns_4 c = let m = c.before in let w = m.before.before.args.word.now in
     within 255 w c.number2.ensures ∙ sym (ap (λ k. fits k w) m.match.keys4)
 
-returns-5 : tie.Need-returns-5
+returns_5 : tie.Need-returns-5
 unfolding fits
-returns-5 c = let m = c.before in let w = m.before.before.args.word.now in
+returns_5 c = let m = c.before in let w = m.before.before.args.word.now in
     within 300 w c.number3.ensures ∙ sym (ap (λ k. fits k w) m.match.keys5)
 
-returns-6 : tie.Need-returns-6
+returns_6 : tie.Need-returns-6
 unfolding fits
-returns-6 c = let m = c.before in let w = m.before.before.args.word.now in
+returns_6 c = let m = c.before in let w = m.before.before.args.word.now in
     within 255 w c.number4.ensures ∙ sym (ap (λ k. fits k w) m.match.keys6)
 
-returns-7 : tie.Need-returns-7
+returns_7 : tie.Need-returns-7
 unfolding fits
-returns-7 c = let m = c.before in let w = m.before.before.args.word.now in
+returns_7 c = let m = c.before in let w = m.before.before.args.word.now in
     within 65535 w c.number5.ensures ∙ sym (ap (λ k. fits k w) m.match.keys7)
 
-returns-8 : tie.Need-returns-8
+returns_8 : tie.Need-returns-8
 unfolding fits
-returns-8 c = let m = c.before in let w = m.before.before.args.word.now in
+returns_8 c = let m = c.before in let w = m.before.before.args.word.now in
     rw (to_z-of_z (sfits_of c.signed.type-inv))
-    (ap (λ z. not (lt_z (pos 2_147_483_647) z)) c.signed.ensures ∙ ap not (signed-fits w) ∙ not-not (is_signed w) ∙ sym (ap (λ k. fits k w) m.match.keys8))
+    (ap (λ z. not (lt_z (pos 2_147_483_647) z)) c.signed.ensures ∙ ap not (signed_fits w) ∙ not_not (is_signed w) ∙ sym (ap (λ k. fits k w) m.match.keys8))
 
-returns-9 : tie.Need-returns-9
-returns-9 c = let a = c.before.before.args in let r = c.match.rest in
-    fits-other a.kind a.word.now r.0.0.0.0.0.0.0.1 r.0.0.0.0.0.0.1 r.0.0.0.0.0.1 r.0.0.0.0.1 r.0.0.0.1 r.0.0.1 r.0.1 r.1
+returns_9 : tie.Need-returns-9
+returns_9 c = let a = c.before.before.args in let r = c.match.rest in
+    fits_other a.kind a.word.now r.0.0.0.0.0.0.0.1 r.0.0.0.0.0.0.1 r.0.0.0.0.0.1 r.0.0.0.0.1 r.0.0.0.1 r.0.0.1 r.0.1 r.1
 
-pub fits-spec : {M : Type 1} → statement M
-fits-spec =
+pub fits_spec : {M : Type 1} → statement M
+fits_spec =
     tie.close
     (tie.spec
     (λ c κs. tt)
@@ -75,11 +75,11 @@ fits-spec =
     (λ c κs. tt)
     (λ c κs. tt)
     returns
-    returns-2
-    returns-3
-    returns-4
-    returns-5
-    returns-6
-    returns-7
-    returns-8
-    returns-9)
+    returns_2
+    returns_3
+    returns_4
+    returns_5
+    returns_6
+    returns_7
+    returns_8
+    returns_9)

@@ -4,61 +4,61 @@ use Prim.Native.Nat.{◌-◌, ◌≤◌}
 use native.Mathlib.Omega.{arith}
 use borrow.Author.Rules.{sfits_of}
 use mir.Facts.{to_z-of_z}
-use Rattle.words.specs.Numbers.{wholeIn}
+use Rattle.words.specs.Numbers.{whole_in}
 use Rattle.papers.specs.Papers.{SLOTS}
-use Rattle.protocol.specs.Laws.Record.{filled, filled_more, filled-end}
+use Rattle.protocol.specs.Laws.Record.{filled, filled_more, filled_end}
 use Rattle.protocol.proofs.numbers.Statement.{statement}
 use Rattle.protocol.proofs.numbers.Tie as tie
 
-abbrev invariant-loop : tie.invariant-loop
-invariant-loop line start out₀ at₀ i₀ out at i = (i ≤ SLOTS) × (filled wholeIn SLOTS line out i at ≡ filled wholeIn SLOTS line out₀ 0 start)
+abbrev invariant_loop : tie.invariant-loop
+invariant_loop line start out₀ at₀ i₀ out at i = (i ≤ SLOTS) × (filled whole_in SLOTS line out i at ≡ filled whole_in SLOTS line out₀ 0 start)
 
-abbrev decreases-loop : tie.decreases-loop
-decreases-loop line start out₀ at₀ i₀ out at i = SLOTS - i
+abbrev decreases_loop : tie.decreases-loop
+decreases_loop line start out₀ at₀ i₀ out at i = SLOTS - i
 
-loop-holds : tie.Need-loop-init invariant-loop decreases-loop
-loop-holds c = (omega arith, refl)
+loop_holds : tie.Need-loop-init invariant_loop decreases_loop
+loop_holds c = (omega arith, refl)
 
-word-at-requires : tie.Need-word-at-requires invariant-loop decreases-loop
-word-at-requires c κs = tt
+word_at_requires : tie.Need-word-at-requires invariant_loop decreases_loop
+word_at_requires c κs = tt
 
-whole-requires : tie.Need-whole-requires invariant-loop decreases-loop
-whole-requires c κs = tt
+whole_requires : tie.Need-whole-requires invariant_loop decreases_loop
+whole_requires c κs = tt
 
-put-number-requires : tie.Need-put-number-requires invariant-loop decreases-loop
-put-number-requires c κs = omega arith
+put_number_requires : tie.Need-put-number-requires invariant_loop decreases_loop
+put_number_requires c κs = omega arith
 
-next-place-requires : tie.Need-next-place-requires invariant-loop decreases-loop
-next-place-requires c κs = omega arith
+next_place_requires : tie.Need-next-place-requires invariant_loop decreases_loop
+next_place_requires c κs = omega arith
 
-add-i : tie.Need-overflow-add-i invariant-loop decreases-loop
-add-i c = omega arith
+add_i : tie.Need-overflow-add-i invariant_loop decreases_loop
+add_i c = omega arith
 
-loop-less : tie.Need-loop-smaller invariant-loop decreases-loop
-loop-less c = omega arith
+loop_less : tie.Need-loop-smaller invariant_loop decreases_loop
+loop_less c = omega arith
 
-loop-again : tie.Need-loop-preserved invariant-loop decreases-loop
-loop-again c = let p = c.before in let l = p.before.before.before.before.before in let a = l.before.before.args in (
+loop_again : tie.Need-loop-preserved invariant_loop decreases_loop
+loop_again c = let p = c.before in let l = p.before.before.before.before.before in let a = l.before.before.args in (
   omega arith,
-  sym (filled_more wholeIn SLOTS a.line.now l.loop.out l.loop.i l.loop.at (omega arith) p.before.before.word_at.ensures p.before.whole.ensures (rw (to_z-of_z (sfits_of p.before.whole.type-inv)) at p.put-number.ensures) c.next_place.ensures) ∙ l.loop.invariant.1,
+  sym (filled_more whole_in SLOTS a.line.now l.loop.out l.loop.i l.loop.at (omega arith) p.before.before.word_at.ensures p.before.whole.ensures (rw (to_z-of_z (sfits_of p.before.whole.type-inv)) at p.put-number.ensures) c.next_place.ensures) ∙ l.loop.invariant.1,
 )
 
-returns : tie.Need-returns invariant-loop decreases-loop
+returns : tie.Need-returns invariant_loop decreases_loop
 returns c = let l = c.before in let a = l.before.before.args in
-    sym (filled-end wholeIn SLOTS a.line.now l.loop.out l.loop.i l.loop.at (omega arith)) ∙ l.loop.invariant.1
+    sym (filled_end whole_in SLOTS a.line.now l.loop.out l.loop.i l.loop.at (omega arith)) ∙ l.loop.invariant.1
 
-pub numbers-spec : {M : Type 1} → statement M
-numbers-spec =
+pub numbers_spec : {M : Type 1} → statement M
+numbers_spec =
     tie.close
     (tie.spec
-    invariant-loop
-    decreases-loop
-    loop-holds
-    word-at-requires
-    whole-requires
-    put-number-requires
-    next-place-requires
-    add-i
-    loop-less
-    loop-again
+    invariant_loop
+    decreases_loop
+    loop_holds
+    word_at_requires
+    whole_requires
+    put_number_requires
+    next_place_requires
+    add_i
+    loop_less
+    loop_again
     returns)

@@ -9,35 +9,35 @@ use Rattle.std.proofs.lemmas.List.Edits.{sets, sets-eq}
 use Rattle.papers.specs.Papers.{SLOTS}
 use Rattle.layout.specs.declared.Record.{Record}
 use Rattle.words.specs.Lines.{word_of}
-use Rattle.words.specs.Numbers.{valueIn, wholeIn}
-use Rattle.protocol.specs.Line.{nth, wordsAt, nextPlace}
-use Rattle.protocol.specs.Record.{values_of, recordIn, recordAt}
+use Rattle.words.specs.Numbers.{value_in, whole_in}
+use Rattle.protocol.specs.Line.{nth, words_at, next_place}
+use Rattle.protocol.specs.Record.{values_of, record_in, record_at}
 use Rattle.protocol.specs.Laws.Line.{word_at, rest_at}
 
 -- ---- of `parts` and `numbers`: values from a word on, into an array
 
 module _ {A : Type 0} (value : List ℕ → A) (most : ℕ) (s : List ℕ) where
   abbrev pub filled : List A → ℕ → ℕ → List A
-  filled l i at = sets l i (values_of value (most - i) (wordsAt s at))
+  filled l i at = sets l i (values_of value (most - i) (words_at s at))
 
-  pub filled_more : (l : List A) (i at : ℕ) → i < most → {x : A} {w : List ℕ} → w ≡ word_of (drop at s) → x ≡ value w → {m : List A} → m ≡ set l i x → {next : ℕ} → next ≡ nextPlace s at
+  pub filled_more : (l : List A) (i at : ℕ) → i < most → {x : A} {w : List ℕ} → w ≡ word_of (drop at s) → x ≡ value w → {m : List A} → m ≡ set l i x → {next : ℕ} → next ≡ next_place s at
       → filled l i at ≡ filled m (i + 1) next
   unfolding values_of
   filled_more l i at h ew ex em en =
       let e : most - i ≡ suc (most - (i + 1)) = omega arith in
       rw (e, ← word_at s at, rest_at s at, em, ex, ew, en, add-one i) refl
 
-  pub filled-end : (l : List A) (i at : ℕ) → most ≤ i → filled l i at ≡ l
+  pub filled_end : (l : List A) (i at : ℕ) → most ≤ i → filled l i at ≡ l
   unfolding values_of
-  filled-end l i at h = let e : most - i ≡ 0 = omega arith in rw e refl
+  filled_end l i at h = let e : most - i ≡ 0 = omega arith in rw e refl
 
-  pub passed-more : (i at : ℕ) → i < most → {next : ℕ} → next ≡ nextPlace s at → drop (most - i) (wordsAt s at) ≡ drop (most - (i + 1)) (wordsAt s next)
-  passed-more i at h en =
+  pub passed_more : (i at : ℕ) → i < most → {next : ℕ} → next ≡ next_place s at → drop (most - i) (words_at s at) ≡ drop (most - (i + 1)) (words_at s next)
+  passed_more i at h en =
       let e : 1 + (most - (i + 1)) ≡ most - i = omega arith in
-      ap (λ k. drop k (wordsAt s at)) (sym e) ∙ sym (drop-drop (most - (i + 1)) 1 (wordsAt s at)) ∙ ap (drop (most - (i + 1))) (rest_at s at ∙ ap (wordsAt s) (sym en))
+      ap (λ k. drop k (words_at s at)) (sym e) ∙ sym (drop-drop (most - (i + 1)) 1 (words_at s at)) ∙ ap (drop (most - (i + 1))) (rest_at s at ∙ ap (words_at s) (sym en))
 
-  pub passed-end : (i at : ℕ) → most ≤ i → drop (most - i) (wordsAt s at) ≡ wordsAt s at
-  passed-end i at h = let e : most - i ≡ 0 = omega arith in rw e refl
+  pub passed_end : (i at : ℕ) → most ≤ i → drop (most - i) (words_at s at) ≡ words_at s at
+  passed_end i at h = let e : most - i ≡ 0 = omega arith in rw e refl
 
 values_length : {A : Type 0} (value : List ℕ → A) (k : ℕ) (ws : List (List ℕ)) → length (values_of value k ws) ≡ k
 unfolding values_of
@@ -45,8 +45,8 @@ values_length value zero ws = refl
 values_length value (suc k) ws = ap suc (values_length value k (drop 1 ws))
 
 -- an array that they fill
-pub filled-all : {A : Type 0} (value : List ℕ → A) (k : ℕ) (ws : List (List ℕ)) (l : List A) {m : List A} → k ≡ length l → m ≡ sets l 0 (values_of value k ws) → m ≡ values_of value k ws
-filled-all value k ws l e em =
+pub filled_all : {A : Type 0} (value : List ℕ → A) (k : ℕ) (ws : List (List ℕ)) (l : List A) {m : List A} → k ≡ length l → m ≡ sets l 0 (values_of value k ws) → m ≡ values_of value k ws
+filled_all value k ws l e em =
     em
     ∙ sets-eq (values_of value k ws) l 0 (omega (arith, values_length value k ws))
     ∙ ap (λ x. values_of value k ws ++ x) (drop_of_length-le l {i = 0 + length (values_of value k ws)} (omega (arith, values_length value k ws)))
@@ -54,27 +54,27 @@ filled-all value k ws l e em =
 
 -- ---- of `record_in`
 
-pub record-taken : (s : List ℕ) (at at4 : ℕ) {c i at2 at3 : ℕ} {w v : List ℕ} {p : List ℕ} {n : List ℤ}
-    → w ≡ word_of (drop at s) → c ≡ (valueIn 255) w → at2 ≡ nextPlace s at → v ≡ word_of (drop at2 s) → i ≡ (valueIn 255) v → at3 ≡ nextPlace s at2
-    → p ≡ values_of (valueIn 255) 8 (wordsAt s at3) → wordsAt s at4 ≡ drop 8 (wordsAt s at3) → n ≡ values_of wholeIn SLOTS (wordsAt s at4)
-    → ◌≡◌ {A = Record} (record { cat = c; items = i; parts = p; numbers = n }) (recordIn (wordsAt s at))
-unfolding recordIn
-record-taken s at at4 {at2 = at2} {at3 = at3} ew ec e2 ev ei e3 ep e4 en =
-    let r2 : wordsAt s at2 ≡ drop 1 (wordsAt s at) = ap (wordsAt s) e2 ∙ sym (rest_at s at) in
-    let r3 : wordsAt s at3 ≡ drop 1 (drop 1 (wordsAt s at)) = ap (wordsAt s) e3 ∙ sym (rest_at s at2) ∙ ap (drop 1) r2 in
-    let ec2 = ec ∙ ap (valueIn 255) (ew ∙ word_at s at) in
-    let ei2 = ei ∙ ap (valueIn 255) (ev ∙ word_at s at2 ∙ ap (λ ws. nth ws 0) r2) in
-    let ep2 = ep ∙ ap (values_of (valueIn 255) 8) r3 in
-    let en2 = en ∙ ap (values_of wholeIn SLOTS) (e4 ∙ ap (drop 8) r3) in
+pub record_taken : (s : List ℕ) (at at4 : ℕ) {c i at2 at3 : ℕ} {w v : List ℕ} {p : List ℕ} {n : List ℤ}
+    → w ≡ word_of (drop at s) → c ≡ (value_in 255) w → at2 ≡ next_place s at → v ≡ word_of (drop at2 s) → i ≡ (value_in 255) v → at3 ≡ next_place s at2
+    → p ≡ values_of (value_in 255) 8 (words_at s at3) → words_at s at4 ≡ drop 8 (words_at s at3) → n ≡ values_of whole_in SLOTS (words_at s at4)
+    → ◌≡◌ {A = Record} (record { cat = c; items = i; parts = p; numbers = n }) (record_in (words_at s at))
+unfolding record_in
+record_taken s at at4 {at2 = at2} {at3 = at3} ew ec e2 ev ei e3 ep e4 en =
+    let r2 : words_at s at2 ≡ drop 1 (words_at s at) = ap (words_at s) e2 ∙ sym (rest_at s at) in
+    let r3 : words_at s at3 ≡ drop 1 (drop 1 (words_at s at)) = ap (words_at s) e3 ∙ sym (rest_at s at2) ∙ ap (drop 1) r2 in
+    let ec2 = ec ∙ ap (value_in 255) (ew ∙ word_at s at) in
+    let ei2 = ei ∙ ap (value_in 255) (ev ∙ word_at s at2 ∙ ap (λ ws. nth ws 0) r2) in
+    let ep2 = ep ∙ ap (values_of (value_in 255) 8) r3 in
+    let en2 = en ∙ ap (values_of whole_in SLOTS) (e4 ∙ ap (drop 8) r3) in
     rw (ec2, ei2, ep2, en2) refl
 
 -- ---- of `record_at`
 
-pub record-front : (line : List ℕ) (at : ℕ) {f : List ℕ} {r : Record} → f ≡ take 16_384 line → r ≡ recordIn (wordsAt f at) → r ≡ recordAt line at
-unfolding recordAt
-record-front line at ef er = er ∙ ap (λ s. recordIn (wordsAt s at)) ef
+pub record_front : (line : List ℕ) (at : ℕ) {f : List ℕ} {r : Record} → f ≡ take 16_384 line → r ≡ record_in (words_at f at) → r ≡ record_at line at
+unfolding record_at
+record_front line at ef er = er ∙ ap (λ s. record_in (words_at s at)) ef
 
 -- of a line that a request can be
-pub record-short : (line : List ℕ) (at : ℕ) → length line ≤ 16_384 → recordIn (wordsAt line at) ≡ recordAt line at
-unfolding recordAt
-record-short line at h = ap (λ s. recordIn (wordsAt s at)) (sym (take_all 16_384 line h))
+pub record_short : (line : List ℕ) (at : ℕ) → length line ≤ 16_384 → record_in (words_at line at) ≡ record_at line at
+unfolding record_at
+record_short line at h = ap (λ s. record_in (words_at s at)) (sym (take_all 16_384 line h))

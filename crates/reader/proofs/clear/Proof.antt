@@ -11,16 +11,16 @@ use lib.Seq.{take_all, take-suc-set}
 use Rattle.reader.proofs.clear.Statement.{statement}
 use Rattle.reader.proofs.clear.Tie as tie
 
-abbrev invariant-loop : tie.invariant-loop
-invariant-loop numbers₀ i₀ numbers i = (i ≤ length numbers) × (length numbers ≡ length numbers₀) × (take i numbers ≡ replicate i (pos 0))
+abbrev invariant_loop : tie.invariant-loop
+invariant_loop numbers₀ i₀ numbers i = (i ≤ length numbers) × (length numbers ≡ length numbers₀) × (take i numbers ≡ replicate i (pos 0))
 
-abbrev decreases-loop : tie.decreases-loop
-decreases-loop numbers₀ i₀ numbers i = length numbers - i
+abbrev decreases_loop : tie.decreases-loop
+decreases_loop numbers₀ i₀ numbers i = length numbers - i
 
 pub clear_spec : {M : Type 1} → statement M
 clear_spec =
     tie.close
-    (tie.spec invariant-loop decreases-loop (λ c. (omega arith, refl, refl)) (λ c. search rules) (λ c. omega arith) (λ c. omega arith) (λ c. simp length-set (omega arith))
+    (tie.spec invariant_loop decreases_loop (λ c. (omega arith, refl, refl)) (λ c. search rules) (λ c. omega arith) (λ c. omega arith) (λ c. simp length-set (omega arith))
     (λ c.
     let l = c.before.loop in (
       simp length-set (omega arith),

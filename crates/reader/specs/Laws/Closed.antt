@@ -4,39 +4,39 @@ use Rattle.std.proofs.Math.Path.{refl, ap}
 use Rattle.std.proofs.Common.{sym, ap₂, ◌∙◌, subst, arith, le-leb, eqb-true}
 use Rattle.std.proofs.lemmas.Bool.{lt-leb}
 use Rattle.codec.specs.Pick.{pick}
-use Rattle.codec.specs.Codec.{Res, got, bad, mapRes}
+use Rattle.codec.specs.Codec.{Res, got, bad, map_res}
 use Rattle.codec.specs.Frame.{accepted, refused}
 use Rattle.layout.specs.declared.Answer.TheVariants.{Accepted}
 use Rattle.reader.specs.declared.places.Places.{Places}
-use Rattle.reader.specs.Rows.{Found, rowFrom}
+use Rattle.reader.specs.Rows.{Found, row_from}
 use Rattle.reader.specs.Fields.{ends}
 use Rattle.reader.specs.Seen.{Ends}
-use Rattle.reader.specs.Places.{placesFrom, RowSeen, unplacedOf, surveyedBy, closedOf}
-use Rattle.reader.specs.Laws.Places.{places-are}
+use Rattle.reader.specs.Places.{places_from, RowSeen, unplaced_of, surveyed_by, closed_of}
+use Rattle.reader.specs.Laws.Places.{places_are}
 
-module _ (k n : ℕ) (ds xs : List ℕ) {r : Places} (w : RowSeen (placesFrom k n ds xs) n r) (ind len : ℕ) (few : len < 256) where
-  pub closed_is : closedOf r ind len ≡ surveyedBy n len ind (ends len (rowFrom k n ds xs 2))
-  unfolding closedOf ends
-  closed_is = go (rowFrom k n ds xs 2) refl
+module _ (k n : ℕ) (ds xs : List ℕ) {r : Places} (w : RowSeen (places_from k n ds xs) n r) (ind len : ℕ) (few : len < 256) where
+  pub closed_is : closed_of r ind len ≡ surveyed_by n len ind (ends len (row_from k n ds xs 2))
+  unfolding closed_of ends
+  closed_is = go (row_from k n ds xs 2) refl
     where
-      as_code : (x : Res Found) → rowFrom k n ds xs 2 ≡ x → placesFrom k n ds xs ≡ mapRes (λ (f : Found). 2 ∷ f.1) x
-      as_code x ex = places-are k n ds xs ∙ ap (mapRes (λ (f : Found). 2 ∷ f.1)) ex
+      as_code : (x : Res Found) → row_from k n ds xs 2 ≡ x → places_from k n ds xs ≡ map_res (λ (f : Found). 2 ∷ f.1) x
+      as_code x ex = places_are k n ds xs ∙ ap (map_res (λ (f : Found). 2 ∷ f.1)) ex
 
-      go : (x : Res Found) → rowFrom k n ds xs 2 ≡ x → closedOf r ind len ≡ surveyedBy n len ind (ends len (rowFrom k n ds xs 2))
+      go : (x : Res Found) → row_from k n ds xs 2 ≡ x → closed_of r ind len ≡ surveyed_by n len ind (ends len (row_from k n ds xs 2))
       go (bad e p) ex =
           let s : Ends (bad e p) r.0 = subst (λ x. Ends x r.0) (as_code (bad e p) ex) w.step in
           let f = s.fits in
           let z = s.is in
           let a : r.0 / 65_536 % 256 ≡ e = omega (arith, z, f.1, f.2) in
           let b : r.0 % 65_536 ≡ p = omega (arith, z, f.2) in
-          rw (le-leb 65_536 r.0 (omega (arith, z, f.0)), ex) (ap₂ unplacedOf a b)
+          rw (le-leb 65_536 r.0 (omega (arith, z, f.0)), ex) (ap₂ unplaced_of a b)
       go (got f e) ex =
-          let q : placesFrom k n ds xs ≡ got (2 ∷ f.1) e = as_code (got f e) ex in
+          let q : places_from k n ds xs ≡ got (2 ∷ f.1) e = as_code (got f e) ex in
           let s : Ends (got (2 ∷ f.1) e) r.0 = subst (λ x. Ends x r.0) q w.step in
           rw (lt-leb 65_536 r.0 (omega (arith, s.is, s.fits)), ex, sym s.is) (last (eqb r.0 len) refl s.is q)
         where
-          last : (b : Bool) → eqb r.0 len ≡ b → r.0 ≡ e → placesFrom k n ds xs ≡ got (2 ∷ f.1) e
-              → pick b (record { answer = Accepted r.0; items = ind; starts = r.1 }) (unplacedOf 9 r.0) ≡ surveyedBy n len ind (pick b (accepted f) (refused 9 r.0))
+          last : (b : Bool) → eqb r.0 len ≡ b → r.0 ≡ e → places_from k n ds xs ≡ got (2 ∷ f.1) e
+              → pick b (record { answer = Accepted r.0; items = ind; starts = r.1 }) (unplaced_of 9 r.0) ≡ surveyed_by n len ind (pick b (accepted f) (refused 9 r.0))
           last false eb z q = refl
           last true eb z q =
               let y : r.0 ≡ len = eqb-true r.0 len eb in

@@ -2,30 +2,30 @@
 use Rattle.std.specs.Prelude.{◌≡◌, refl, Bool, true, ◌&&◌, List, ℕ, zero, suc, ◌-◌, ◌^◌, ◌/◌, ◌%◌, ◌≤◌, ◌<◌, leb}
 use Rattle.std.proofs.Math.Path.{sym, subst}
 use Rattle.std.proofs.Math.Dec.{T, leb→le}
-use Rattle.codec.specs.Line.{Piece, toNum, limit, inLimits}
-use Rattle.codec.specs.Laws.Tests.{and_l, and_r}
-use Rattle.lengths.specs.Lines.{kind_of, piecesFrom, narrow}
-use Rattle.lengths.specs.Laws.Formats.{more-spare, more-num}
-use Rattle.reader.specs.Numbers.{numsAt, pieceFits}
-use Rattle.reader.specs.Laws.Numbers.{by_zero, limit-none}
+use Rattle.codec.specs.Line.{Piece, to_num, limit, in_limits}
+use Rattle.codec.proofs.Laws.Tests.{and_l, and_r}
+use Rattle.lengths.specs.Lines.{kind_of, pieces_from, narrow}
+use Rattle.lengths.specs.Laws.Formats.{more_spare, more_num}
+use Rattle.reader.specs.Numbers.{nums_at, piece_fits}
+use Rattle.reader.specs.Laws.Numbers.{by_zero, limit_none}
 
 -- ---- the ways out of `piece_fits`
 
-pub free-fits : (k w n next : ℕ) → k < 3 → true ≡ pieceFits k w n next
-unfolding pieceFits
-free-fits zero w n next h = refl
-free-fits (suc k) w n next h = limit-none (suc k) _ h
+pub free_fits : (k w n next : ℕ) → k < 3 → true ≡ piece_fits k w n next
+unfolding piece_fits
+free_fits zero w n next h = refl
+free_fits (suc k) w n next h = limit_none (suc k) _ h
 
-pub number_fits : (k w n next : ℕ) → (k ≡ 0 → ⊥) → limit (kind_of k) (toNum (kind_of k) w (n / 2 ^ next % 2 ^ w)) ≡ pieceFits k w n next
-unfolding pieceFits
+pub number_fits : (k w n next : ℕ) → (k ≡ 0 → ⊥) → limit (kind_of k) (to_num (kind_of k) w (n / 2 ^ next % 2 ^ w)) ≡ piece_fits k w n next
+unfolding piece_fits
 number_fits zero w n next h = absurd (h refl)
 number_fits (suc k) w n next h = refl
 
 -- ---- the first piece of a code, and the rest of it behind
 
-pub limits-none : (code left n shift : ℕ) → left ≡ 0 → true ≡ inLimits (piecesFrom left code) (numsAt (piecesFrom left code) n shift)
-unfolding piecesFrom inLimits
-limits-none code left n shift e = rw e refl
+pub limits_none : (code left n shift : ℕ) → left ≡ 0 → true ≡ in_limits (pieces_from left code) (nums_at (pieces_from left code) n shift)
+unfolding pieces_from in_limits
+limits_none code left n shift e = rw e refl
 
 module _ (code left : ℕ) (h : left ≡ 0 → ⊥) where
   abbrev k : ℕ
@@ -35,18 +35,18 @@ module _ (code left : ℕ) (h : left ≡ 0 → ⊥) where
   w = code % 256 % 32
 
   abbrev qs : List Piece
-  qs = piecesFrom (left - 1) (code / 256)
+  qs = pieces_from (left - 1) (code / 256)
 
-  module _ (t : T (narrow (piecesFrom left code))) where
-    pub first-narrow : (k ≡ 0 → ⊥) → w ≤ 24
+  module _ (t : T (narrow (pieces_from left code))) where
+    pub first_narrow : (k ≡ 0 → ⊥) → w ≤ 24
     unfolding narrow
-    first-narrow e = leb→le w 24 (and_l (leb w 24) _ (subst (λ x. T (narrow x)) (more-num code left h e) t))
+    first_narrow e = leb→le w 24 (and_l (leb w 24) _ (subst (λ x. T (narrow x)) (more_num code left h e) t))
 
-    pub rest-narrow : T (narrow qs)
+    pub rest_narrow : T (narrow qs)
     unfolding narrow
-    rest-narrow = by_zero k (λ e. subst (λ x. T (narrow x)) (more-spare code left h e) t) (λ e. and_r (leb w 24) _ (subst (λ x. T (narrow x)) (more-num code left h e) t))
+    rest_narrow = by_zero k (λ e. subst (λ x. T (narrow x)) (more_spare code left h e) t) (λ e. and_r (leb w 24) _ (subst (λ x. T (narrow x)) (more_num code left h e) t))
 
-  pub limits-on : (n shift : ℕ) {next : ℕ} → next ≡ shift - w → {b : Bool} → b ≡ pieceFits k w n next → inLimits (piecesFrom left code) (numsAt (piecesFrom left code) n shift) ≡ b && inLimits qs (numsAt qs n next)
-  unfolding inLimits numsAt pieceFits
-  limits-on n shift en eb = rw (eb, en)
-      (by_zero k (λ e. rw (more-spare code left h e, e) refl) (λ e. rw (more-num code left h e, sym (number_fits k w n (shift - w) e)) refl))
+  pub limits_on : (n shift : ℕ) {next : ℕ} → next ≡ shift - w → {b : Bool} → b ≡ piece_fits k w n next → in_limits (pieces_from left code) (nums_at (pieces_from left code) n shift) ≡ b && in_limits qs (nums_at qs n next)
+  unfolding in_limits nums_at piece_fits
+  limits_on n shift en eb = rw (eb, en)
+      (by_zero k (λ e. rw (more_spare code left h e, e) refl) (λ e. rw (more_num code left h e, sym (number_fits k w n (shift - w) e)) refl))

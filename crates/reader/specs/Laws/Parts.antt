@@ -8,41 +8,41 @@ use Rattle.std.proofs.Math.ListN.{length, get_or, get_or-map, get_or-append}
 use Rattle.std.proofs.Math.Seq.{get_or-drop}
 use Rattle.codec.specs.Pick.{pick}
 use Rattle.codec.specs.Radix.{total, cut, join, eights}
-use Rattle.codec.specs.Codec.{Res, got, bad, mapRes, shift}
+use Rattle.codec.specs.Codec.{Res, got, bad, map_res, shift}
 use Rattle.codec.specs.Line.{Line, Held, widths, nums, line, fills}
-use Rattle.codec.specs.Item.{slots_of, isOne}
+use Rattle.codec.specs.Item.{slots_of, is_one}
 use Rattle.codec.specs.Field.{flags}
-use Rattle.codec.specs.Laws.Radix.{total-eights, join-take}
-use Rattle.codec.specs.Laws.Line.{whole_of, digitsOf, line-short, line-every}
+use Rattle.codec.proofs.Laws.Radix.{total-eights, join-take}
+use Rattle.codec.proofs.Laws.Line.{whole_of, digits_of, line_short, line_every}
 use Rattle.lengths.specs.Lines.{line_at}
-use Rattle.lengths.specs.Laws.Lines.{line-filled}
+use Rattle.lengths.specs.Laws.Lines.{line_filled}
 use Rattle.shapes.specs.Shapes.{lines_from}
-use Rattle.reader.specs.Steps.{lineRun}
-use Rattle.reader.specs.Chains.{chainAt}
-use Rattle.reader.specs.Laws.Chains.{part-bad, part-over, part-last, part_then, line-zero}
-use Rattle.reader.specs.Seen.{goesOn}
+use Rattle.reader.specs.Steps.{line_run}
+use Rattle.reader.specs.Chains.{chain_at}
+use Rattle.reader.specs.Laws.Chains.{part_bad, part_over, part_last, part_then, line_zero}
+use Rattle.reader.specs.Seen.{goes_on}
 
 -- ---- what a line holds, by its octets
 
 abbrev HeldBy : Line → List ℕ → Res Held → Type 0
-HeldBy l ys (got v m) = (l.octets ≤ length ys) × (v ≡ (whole_of l ys % 2 ^ l.fx, nums l.pieces (digitsOf l ys))) × (m ≡ l.octets)
+HeldBy l ys (got v m) = (l.octets ≤ length ys) × (v ≡ (whole_of l ys % 2 ^ l.fx, nums l.pieces (digits_of l ys))) × (m ≡ l.octets)
 HeldBy l ys (bad e p) = Unit {0}
 
-held-line : (l : Line) (ys : List ℕ) → HeldBy l ys ((line l).read ys)
-held-line l ys = go (leb l.octets (length ys)) refl
+held_line : (l : Line) (ys : List ℕ) → HeldBy l ys ((line l).read ys)
+held_line l ys = go (leb l.octets (length ys)) refl
   where
     go : (b : Bool) → leb l.octets (length ys) ≡ b → HeldBy l ys ((line l).read ys)
-    go true e = line-every l ys (HeldBy l ys) (λ _. tt) (leb-true l.octets (length ys) e, refl, refl)
-    go false e = subst (HeldBy l ys) (sym (line-short l ys (leb-false l.octets (length ys) e))) tt
+    go true e = line_every l ys (HeldBy l ys) (λ _. tt) (leb-true l.octets (length ys) e, refl, refl)
+    go false e = subst (HeldBy l ys) (sym (line_short l ys (leb-false l.octets (length ys) e))) tt
 
 pub record LineHeld (b : ℕ) (xs : List ℕ) (at : ℕ) (w : Held) (n : ℕ) : Type 0 where
   pub there : (line_at b).octets ≤ length (drop at xs)
-  pub holds : w ≡ (whole_of (line_at b) (drop at xs) % 2 ^ (line_at b).fx, nums (line_at b).pieces (digitsOf (line_at b) (drop at xs)))
+  pub holds : w ≡ (whole_of (line_at b) (drop at xs) % 2 ^ (line_at b).fx, nums (line_at b).pieces (digits_of (line_at b) (drop at xs)))
   pub next : n ≡ at + (line_at b).octets
 
-pub line-held : (b : ℕ) (xs : List ℕ) (at : ℕ) {w : Held} {n : ℕ} → lineRun b xs at ≡ got w n → LineHeld b xs at w n
-unfolding lineRun
-line-held b xs at {w} {n} e = go ((line (line_at b)).read (drop at xs)) (held-line (line_at b) (drop at xs)) e
+pub line_held : (b : ℕ) (xs : List ℕ) (at : ℕ) {w : Held} {n : ℕ} → line_run b xs at ≡ got w n → LineHeld b xs at w n
+unfolding line_run
+line_held b xs at {w} {n} e = go ((line (line_at b)).read (drop at xs)) (held_line (line_at b) (drop at xs)) e
   where
     go : (y : Res Held) → HeldBy (line_at b) (drop at xs) y → shift at y ≡ got w n → LineHeld b xs at w n
     go (got v m) h q =
@@ -52,15 +52,15 @@ line-held b xs at {w} {n} e = go ((line (line_at b)).read (drop at xs)) (held-li
     go (bad q' p) h q = let z : ◌≡◌ {A = ℕ} 0 1 = cc in absurd (omega arith)
 
 -- FX is the lowest bit of the last octet
-pub fx-octet : (b : ℕ) (xs : List ℕ) (at : ℕ) → (line_at b).fx ≡ 1 → {x n : ℕ} {v : List ℤ} → lineRun b xs at ≡ got (x, v) n → x ≡ get_or xs (n - 1) 0 % 2
+pub fx_octet : (b : ℕ) (xs : List ℕ) (at : ℕ) → (line_at b).fx ≡ 1 → {x n : ℕ} {v : List ℤ} → line_run b xs at ≡ got (x, v) n → x ≡ get_or xs (n - 1) 0 % 2
 unfolding fills
-fx-octet b xs at f {x} {n} {v} e = go (line_at b).octets refl
+fx_octet b xs at f {x} {n} {v} e = go (line_at b).octets refl
   where
     h : LineHeld b xs at (x, v) n
-    h = line-held b xs at e
+    h = line_held b xs at e
 
     some : 8 * (line_at b).octets ≡ total (widths (line_at b).pieces) + 1
-    some = sym (total-eights (line_at b).octets) ∙ eqb→eq (total (eights (line_at b).octets)) (total (widths (line_at b).pieces) + (line_at b).fx) (line-filled b) ∙ ap (total (widths (line_at b).pieces) +◌) f
+    some = sym (total-eights (line_at b).octets) ∙ eqb→eq (total (eights (line_at b).octets)) (total (widths (line_at b).pieces) + (line_at b).fx) (line_filled b) ∙ ap (total (widths (line_at b).pieces) +◌) f
 
     go : (k : ℕ) → (line_at b).octets ≡ k → x ≡ get_or xs (n - 1) 0 % 2
     go zero ek = absurd (omega (arith, some, ek))
@@ -75,8 +75,8 @@ fx-octet b xs at f {x} {n} {v} e = go (line_at b).octets refl
         low : (a c : ℕ) → (a * 256 + c) % 2 ^ 1 ≡ c % 2
         low a c = omega arith
 
-pub fx-goes-on : (b : ℕ) (xs : List ℕ) (at : ℕ) → (line_at b).fx ≡ 1 → {x n : ℕ} {v : List ℤ} → lineRun b xs at ≡ got (x, v) n → eqb x 1 ≡ goesOn xs n
-fx-goes-on b xs at f e = ap (λ y. eqb y 1) (fx-octet b xs at f e)
+pub fx_goes_on : (b : ℕ) (xs : List ℕ) (at : ℕ) → (line_at b).fx ≡ 1 → {x n : ℕ} {v : List ℤ} → line_run b xs at ≡ got (x, v) n → eqb x 1 ≡ goes_on xs n
+fx_goes_on b xs at f e = ap (λ y. eqb y 1) (fx_octet b xs at f e)
 
 -- ---- the numbers of a chain whose parts are an octet of flags
 
@@ -98,32 +98,32 @@ bit_is o (suc (suc (suc (suc (suc zero))))) h = omega arith
 bit_is o (suc (suc (suc (suc (suc (suc zero)))))) h = omega arith
 bit_is o (suc (suc (suc (suc (suc (suc (suc i))))))) h = absurd (omega arith)
 
-pub flag-is-bit : (o j i : ℕ) → i < j → j ≤ 7 → {t : Bool} → t ≡ eqb (get_or (flags o) i 0) 1 → t ≡ isOne (get_or (bits j o) i (pos 0))
-unfolding isOne
-flag-is-bit o j i h k e =
+pub flag_is_bit : (o j i : ℕ) → i < j → j ≤ 7 → {t : Bool} → t ≡ eqb (get_or (flags o) i 0) 1 → t ≡ is_one (get_or (bits j o) i (pos 0))
+unfolding is_one
+flag_is_bit o j i h k e =
     e ∙ ap (λ d. eqb d 1) (sym (get_or-take j (cut sevens (o / 2)) i 0 h ∙ bit_is o i (omega arith)))
-    ∙ ap isOne (sym (get_or-map pos (take j (cut sevens (o / 2))) i 0))
+    ∙ ap is_one (sym (get_or-map pos (take j (cut sevens (o / 2))) i 0))
 
 -- the flags of a first part of seven bits, whatever stands behind, and the first bit of a second part
-pub flag-leads : (o : ℕ) (zs : List ℤ) (i : ℕ) → i < 7 → {t : Bool} → t ≡ eqb (get_or (flags o) i 0) 1 → t ≡ isOne (get_or (bits 7 o ++ zs) i (pos 0))
+pub flag_leads : (o : ℕ) (zs : List ℤ) (i : ℕ) → i < 7 → {t : Bool} → t ≡ eqb (get_or (flags o) i 0) 1 → t ≡ is_one (get_or (bits 7 o ++ zs) i (pos 0))
 unfolding cut
-flag-leads o zs i h e = flag-is-bit o 7 i h (omega arith) e ∙ ap isOne (sym (get_or-append (bits 7 o) zs (pos 0) i h))
+flag_leads o zs i h e = flag_is_bit o 7 i h (omega arith) e ∙ ap is_one (sym (get_or-append (bits 7 o) zs (pos 0) i h))
 
-pub flag-behind : (o q n : ℕ) {t : Bool} → t ≡ eqb (get_or (flags (pick (eqb (o % 2) 1) q 0)) 0 0) 1 → t ≡ isOne (get_or (bits 7 o ++ pick (eqb (o % 2) 1) (bits 1 q) (replicate n (pos 0))) 7 (pos 0))
-unfolding cut total isOne
-flag-behind o q n e = e ∙ by (eqb (o % 2) 1)
+pub flag_behind : (o q n : ℕ) {t : Bool} → t ≡ eqb (get_or (flags (pick (eqb (o % 2) 1) q 0)) 0 0) 1 → t ≡ is_one (get_or (bits 7 o ++ pick (eqb (o % 2) 1) (bits 1 q) (replicate n (pos 0))) 7 (pos 0))
+unfolding cut total is_one
+flag_behind o q n e = e ∙ by (eqb (o % 2) 1)
   where
     none : (n : ℕ) → get_or (replicate n (pos 0)) 0 (pos 0) ≡ pos 0
     none zero = refl
     none (suc n) = refl
 
-    by : (b : Bool) → eqb (get_or (flags (pick b q 0)) 0 0) 1 ≡ isOne (get_or (pick b (bits 1 q) (replicate n (pos 0))) 0 (pos 0))
-    by true = flag-is-bit q 1 0 (omega arith) (omega arith) refl
-    by false = ap isOne (sym (none n))
+    by : (b : Bool) → eqb (get_or (flags (pick b q 0)) 0 0) 1 ≡ is_one (get_or (pick b (bits 1 q) (replicate n (pos 0))) 0 (pos 0))
+    by true = flag_is_bit q 1 0 (omega arith) (omega arith) refl
+    by false = ap is_one (sym (none n))
 
-pub behind-some : (o q n : ℕ) → 1 ≤ n → 7 < length (bits 7 o ++ pick (eqb (o % 2) 1) (bits 1 q) (replicate n (pos 0)))
+pub behind_some : (o q n : ℕ) → 1 ≤ n → 7 < length (bits 7 o ++ pick (eqb (o % 2) 1) (bits 1 q) (replicate n (pos 0)))
 unfolding cut
-behind-some o q n h = let g : 1 ≤ length (pick (eqb (o % 2) 1) (bits 1 q) (replicate n (pos 0))) = by (eqb (o % 2) 1) n h in omega arith
+behind_some o q n h = let g : 1 ≤ length (pick (eqb (o % 2) 1) (bits 1 q) (replicate n (pos 0))) = by (eqb (o % 2) 1) n h in omega arith
   where
     by : (b : Bool) (n : ℕ) → 1 ≤ n → 1 ≤ length (pick b (bits 1 q) (replicate n (pos 0)))
     by true n h = omega arith
@@ -141,10 +141,10 @@ Holds zs (got w n) = w.1 ≡ zs
 Holds zs (bad e p) = Unit {0}
 
 module _ (b j : ℕ) (bs : Bits b j) (xs : List ℕ) (at : ℕ) where
-  pub line-bits : {w : Held} {n : ℕ} → lineRun b xs at ≡ got w n → w.1 ≡ bits j (get_or xs at 0)
+  pub line_bits : {w : Held} {n : ℕ} → line_run b xs at ≡ got w n → w.1 ≡ bits j (get_or xs at 0)
   unfolding join total
-  line-bits {w} {n} e =
-      let h : LineHeld b xs at w n = line-held b xs at e in
+  line_bits {w} {n} e =
+      let h : LineHeld b xs at w n = line_held b xs at e in
       let l : 0 < length (drop at xs) = omega (arith, h.there, bs.octet) in
       let z : at + 0 ≡ at = omega arith in
       let one : whole_of (line_at b) (drop at xs) ≡ get_or xs at 0
@@ -154,47 +154,47 @@ module _ (b j : ℕ) (bs : Bits b j) (xs : List ℕ) (at : ℕ) where
       plain : (c : ℕ) → 0 * 256 + c ≡ c
       plain c = omega arith
 
-  pub one_holds : Holds (bits j (get_or xs at 0)) (chainAt b xs at 0)
-  one_holds = go (lineRun b xs at) refl
+  pub one_holds : Holds (bits j (get_or xs at 0)) (chain_at b xs at 0)
+  one_holds = go (line_run b xs at) refl
     where
-      by : (w : Held) (n : ℕ) → lineRun b xs at ≡ got w n → (t : Bool) → eqb w.0 1 ≡ t → Holds (bits j (get_or xs at 0)) (chainAt b xs at 0)
-      by w n e true et = subst (Holds (bits j (get_or xs at 0))) (sym (part-over b xs at (e ∙ ap (λ y. got (y, w.1) n) (eqb-true w.0 1 et)))) tt
+      by : (w : Held) (n : ℕ) → line_run b xs at ≡ got w n → (t : Bool) → eqb w.0 1 ≡ t → Holds (bits j (get_or xs at 0)) (chain_at b xs at 0)
+      by w n e true et = subst (Holds (bits j (get_or xs at 0))) (sym (part_over b xs at (e ∙ ap (λ y. got (y, w.1) n) (eqb-true w.0 1 et)))) tt
       by w n e false et =
-          subst (Holds (bits j (get_or xs at 0))) (sym (part-last b xs at (e ∙ ap (λ y. got (y, w.1) n) (line-zero b xs at bs.part e (eqb-false w.0 1 et))))) (line-bits e)
+          subst (Holds (bits j (get_or xs at 0))) (sym (part_last b xs at (e ∙ ap (λ y. got (y, w.1) n) (line_zero b xs at bs.part e (eqb-false w.0 1 et))))) (line_bits e)
 
-      go : (y : Res Held) → lineRun b xs at ≡ y → Holds (bits j (get_or xs at 0)) (chainAt b xs at 0)
+      go : (y : Res Held) → line_run b xs at ≡ y → Holds (bits j (get_or xs at 0)) (chain_at b xs at 0)
       go (got w n) e = by w n e (eqb w.0 1) refl
-      go (bad q p) e = subst (Holds (bits j (get_or xs at 0))) (sym (part-bad b xs at 0 e)) tt
+      go (bad q p) e = subst (Holds (bits j (get_or xs at 0))) (sym (part_bad b xs at 0 e)) tt
 
 -- two such parts; where FX of the first is 0 the numbers of the second are zeros
 module _ (b i j : ℕ) (bs : Bits b i) (cs : Bits (b + 1) j) (xs : List ℕ) (at : ℕ) where
-  abbrev behindOne : List ℤ
-  behindOne = pick (eqb (get_or xs at 0 % 2) 1) (bits j (get_or xs (at + 1) 0)) (replicate (slots_of (lines_from (b + 1) 1)) (pos 0))
+  abbrev behind_one : List ℤ
+  behind_one = pick (eqb (get_or xs at 0 % 2) 1) (bits j (get_or xs (at + 1) 0)) (replicate (slots_of (lines_from (b + 1) 1)) (pos 0))
 
-  pub two-hold : Holds (bits i (get_or xs at 0) ++ behindOne) (chainAt b xs at 1)
-  two-hold = go (lineRun b xs at) refl
+  pub two_hold : Holds (bits i (get_or xs at 0) ++ behind_one) (chain_at b xs at 1)
+  two_hold = go (line_run b xs at) refl
     where
-      joined : (v : List ℤ) → v ≡ bits i (get_or xs at 0) → (ws : List ℤ) → ws ≡ behindOne → (y : Res Held) → Holds ws y → Holds (bits i (get_or xs at 0) ++ behindOne) (mapRes {A = Held} (λ w. (suc w.0, v ++ w.1)) y)
+      joined : (v : List ℤ) → v ≡ bits i (get_or xs at 0) → (ws : List ℤ) → ws ≡ behind_one → (y : Res Held) → Holds ws y → Holds (bits i (get_or xs at 0) ++ behind_one) (map_res {A = Held} (λ w. (suc w.0, v ++ w.1)) y)
       joined v ev ws es (got w n) h = ap₂ ◌++◌ ev (h ∙ es)
       joined v ev ws es (bad e p) h = tt
 
-      by : (w : Held) (n : ℕ) → lineRun b xs at ≡ got w n → (t : Bool) → eqb w.0 1 ≡ t → Holds (bits i (get_or xs at 0) ++ behindOne) (chainAt b xs at 1)
+      by : (w : Held) (n : ℕ) → line_run b xs at ≡ got w n → (t : Bool) → eqb w.0 1 ≡ t → Holds (bits i (get_or xs at 0) ++ behind_one) (chain_at b xs at 1)
       by w n e true et =
-          let nx : n ≡ at + 1 = (line-held b xs at e).next ∙ ap (at +◌) bs.octet in
+          let nx : n ≡ at + 1 = (line_held b xs at e).next ∙ ap (at +◌) bs.octet in
           let m : n - 1 ≡ at = omega (arith, nx) in
-          let o : eqb (get_or xs at 0 % 2) 1 ≡ true = ap (λ k. eqb (get_or xs k 0 % 2) 1) (sym m) ∙ ap (λ y. eqb y 1) (sym (fx-octet b xs at bs.part e)) ∙ et in
-          let q : bits j (get_or xs n 0) ≡ behindOne = ap (λ k. bits j (get_or xs k 0)) nx ∙ rw o refl in
-          let c : chainAt b xs at 1 ≡ mapRes {A = Held} (λ u. (suc u.0, w.1 ++ u.1)) (chainAt (b + 1) xs n 0) = part_then b xs at 0 e ∙ rw et refl in
-          subst (Holds (bits i (get_or xs at 0) ++ behindOne)) (sym c) (joined w.1 (line-bits b i bs xs at e) (bits j (get_or xs n 0)) q (chainAt (b + 1) xs n 0) (one_holds (b + 1) j cs xs n))
+          let o : eqb (get_or xs at 0 % 2) 1 ≡ true = ap (λ k. eqb (get_or xs k 0 % 2) 1) (sym m) ∙ ap (λ y. eqb y 1) (sym (fx_octet b xs at bs.part e)) ∙ et in
+          let q : bits j (get_or xs n 0) ≡ behind_one = ap (λ k. bits j (get_or xs k 0)) nx ∙ rw o refl in
+          let c : chain_at b xs at 1 ≡ map_res {A = Held} (λ u. (suc u.0, w.1 ++ u.1)) (chain_at (b + 1) xs n 0) = part_then b xs at 0 e ∙ rw et refl in
+          subst (Holds (bits i (get_or xs at 0) ++ behind_one)) (sym c) (joined w.1 (line_bits b i bs xs at e) (bits j (get_or xs n 0)) q (chain_at (b + 1) xs n 0) (one_holds (b + 1) j cs xs n))
       by w n e false et =
-          let nx : n ≡ at + 1 = (line-held b xs at e).next ∙ ap (at +◌) bs.octet in
+          let nx : n ≡ at + 1 = (line_held b xs at e).next ∙ ap (at +◌) bs.octet in
           let m : n - 1 ≡ at = omega (arith, nx) in
-          let o : eqb (get_or xs at 0 % 2) 1 ≡ false = ap (λ k. eqb (get_or xs k 0 % 2) 1) (sym m) ∙ ap (λ y. eqb y 1) (sym (fx-octet b xs at bs.part e)) ∙ et in
+          let o : eqb (get_or xs at 0 % 2) 1 ≡ false = ap (λ k. eqb (get_or xs k 0 % 2) 1) (sym m) ∙ ap (λ y. eqb y 1) (sym (fx_octet b xs at bs.part e)) ∙ et in
           let zs : List ℤ = replicate (slots_of (lines_from (b + 1) 1)) (pos 0) in
-          let q : zs ≡ behindOne = rw o refl in
-          let c : chainAt b xs at 1 ≡ mapRes {A = Held} (λ u. (suc u.0, w.1 ++ u.1)) (got (0, zs) (n + 0)) = part_then b xs at 0 e ∙ rw et refl in
-          subst (Holds (bits i (get_or xs at 0) ++ behindOne)) (sym c) (joined w.1 (line-bits b i bs xs at e) zs q (got (0, zs) (n + 0)) refl)
+          let q : zs ≡ behind_one = rw o refl in
+          let c : chain_at b xs at 1 ≡ map_res {A = Held} (λ u. (suc u.0, w.1 ++ u.1)) (got (0, zs) (n + 0)) = part_then b xs at 0 e ∙ rw et refl in
+          subst (Holds (bits i (get_or xs at 0) ++ behind_one)) (sym c) (joined w.1 (line_bits b i bs xs at e) zs q (got (0, zs) (n + 0)) refl)
 
-      go : (y : Res Held) → lineRun b xs at ≡ y → Holds (bits i (get_or xs at 0) ++ behindOne) (chainAt b xs at 1)
+      go : (y : Res Held) → line_run b xs at ≡ y → Holds (bits i (get_or xs at 0) ++ behind_one) (chain_at b xs at 1)
       go (got w n) e = by w n e (eqb w.0 1) refl
-      go (bad q p) e = subst (Holds (bits i (get_or xs at 0) ++ behindOne)) (sym (part-bad b xs at 1 e)) tt
+      go (bad q p) e = subst (Holds (bits i (get_or xs at 0) ++ behind_one)) (sym (part_bad b xs at 1 e)) tt

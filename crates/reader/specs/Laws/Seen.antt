@@ -1,14 +1,14 @@
 -- Steps: what a number tells of the reading that it stands for.
 use Rattle.std.specs.Prelude.{◌≡◌, refl, Bool, true, false, ℕ, ◌+◌, ◌*◌, ◌≤◌, ◌<◌}
 use Rattle.std.proofs.Common.{sym, ap, ◌∙◌, subst, arith}
-use Rattle.codec.specs.Codec.{Res, got, bad, mapRes}
+use Rattle.codec.specs.Codec.{Res, got, bad, map_res}
 use Rattle.reader.specs.Seen.{code_of, Coded, Ends, Went}
 
-pub ends-got : {A : Type 0} {x : Res A} {r : ℕ} (a : A) (n : ℕ) → x ≡ got a n → r ≡ n → n < 65_536 → Ends x r
-ends-got a n ex er h = record { is = er ∙ ap code_of (sym ex); fits = subst Coded (sym ex) h }
+pub ends_got : {A : Type 0} {x : Res A} {r : ℕ} (a : A) (n : ℕ) → x ≡ got a n → r ≡ n → n < 65_536 → Ends x r
+ends_got a n ex er h = record { is = er ∙ ap code_of (sym ex); fits = subst Coded (sym ex) h }
 
-pub ends-bad : {A : Type 0} {x : Res A} {r : ℕ} (e p : ℕ) → x ≡ bad e p → r ≡ e * 65_536 + p → (1 ≤ e) × (e < 256) × (p < 65_536) → Ends x r
-ends-bad e p ex er h = record { is = er ∙ ap code_of (sym ex); fits = subst Coded (sym ex) h }
+pub ends_bad : {A : Type 0} {x : Res A} {r : ℕ} (e p : ℕ) → x ≡ bad e p → r ≡ e * 65_536 + p → (1 ≤ e) × (e < 256) × (p < 65_536) → Ends x r
+ends_bad e p ex er h = record { is = er ∙ ap code_of (sym ex); fits = subst Coded (sym ex) h }
 
 -- by what was read
 pub ended {ℓ} : {A : Type 0} {X : Type ℓ} {x : Res A} {r : ℕ} → Ends x r
@@ -19,8 +19,8 @@ ended {A = A} {X = X} {x = x} {r = r} s f g = go x refl s.is s.fits
     go (got a n) ey er h = f a (ey ∙ ap (got a) (sym er)) (subst (◌< 65_536) (sym er) h)
     go (bad e p) ey er h = g e p ey er h
 
-pub ends-map : {A B : Type 0} (f : A → B) {x : Res A} {r : ℕ} → Ends x r → Ends (mapRes f x) r
-ends-map f {x} {r} s = ended s (λ a ex h. ends-got (f a) r (ap (mapRes f) ex) refl h) (λ e p ex er h. ends-bad e p (ap (mapRes f) ex) er h)
+pub ends_map : {A B : Type 0} (f : A → B) {x : Res A} {r : ℕ} → Ends x r → Ends (map_res f x) r
+ends_map f {x} {r} s = ended s (λ a ex h. ends_got (f a) r (ap (map_res f) ex) refl h) (λ e p ex er h. ends_bad e p (ap (map_res f) ex) er h)
 
 pub ends_same : {A : Type 0} {x y : Res A} {r : ℕ} → Ends x r → x ≡ y → Ends y r
 ends_same {r = r} s e = subst (λ y. Ends y r) e s
@@ -28,15 +28,15 @@ ends_same {r = r} s e = subst (λ y. Ends y r) e s
 -- ---- the ways out of a function that reads behind a step
 
 module _ {A : Type 0} {t : Bool} {x : Res A} {a : ℕ} where
-  pub went-stop : 65_536 ≤ a → Went t x a a
-  went-stop h = record { stops = λ _. refl; absent = λ g _. absurd (omega (arith, g, h)); there = λ g _. absurd (omega (arith, g, h)) }
+  pub went_stop : 65_536 ≤ a → Went t x a a
+  went_stop h = record { stops = λ _. refl; absent = λ g _. absurd (omega (arith, g, h)); there = λ g _. absurd (omega (arith, g, h)) }
 
   module _ (h : a < 65_536) {u : Bool} (eu : u ≡ t) where
-    pub went-absent : u ≡ false → Went t x a a
-    went-absent e = record { stops = λ _. refl; absent = λ _ _. refl; there = λ _ f. let z : false ≡ true = sym (sym eu ∙ e) ∙ f in let q : ◌≡◌ {A = ℕ} 0 1 = cc in absurd (omega arith) }
+    pub went_absent : u ≡ false → Went t x a a
+    went_absent e = record { stops = λ _. refl; absent = λ _ _. refl; there = λ _ f. let z : false ≡ true = sym (sym eu ∙ e) ∙ f in let q : ◌≡◌ {A = ℕ} 0 1 = cc in absurd (omega arith) }
 
-    pub went-there : u ≡ true → {r : ℕ} → Ends x r → Went t x a r
-    went-there e s = record { stops = λ g. absurd (omega (arith, g, h)); absent = λ _ f. let z : true ≡ false = sym (sym eu ∙ e) ∙ f in let q : ◌≡◌ {A = ℕ} 0 1 = cc in absurd (omega arith); there = λ _ _. s }
+    pub went_there : u ≡ true → {r : ℕ} → Ends x r → Went t x a r
+    went_there e s = record { stops = λ g. absurd (omega (arith, g, h)); absent = λ _ f. let z : true ≡ false = sym (sym eu ∙ e) ∙ f in let q : ◌≡◌ {A = ℕ} 0 1 = cc in absurd (omega arith); there = λ _ _. s }
 
-pub went-same : {A : Type 0} {t : Bool} {x y : Res A} {a r : ℕ} → Went t x a r → x ≡ y → Went t y a r
-went-same {t = t} {a = a} {r = r} w e = subst (λ z. Went t z a r) e w
+pub went_same : {A : Type 0} {t : Bool} {x y : Res A} {a r : ℕ} → Went t x a r → x ≡ y → Went t y a r
+went_same {t = t} {a = a} {r = r} w e = subst (λ z. Went t z a r) e w

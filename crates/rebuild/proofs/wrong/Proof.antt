@@ -9,74 +9,74 @@ use lib.ListN.{length, length-replicate, length-take}
 use mir.Syntax.{w8}
 use mir.Val.{Fits}
 use Rattle.codec.specs.Codec.{Octets}
-use Rattle.codec.specs.Laws.Tests.{and_in}
-use Rattle.codec.specs.Laws.Codec.{octets-all}
-use Rattle.scope.specs.Sheet.{sheetOf}
-use Rattle.sheet.specs.Laws.Whole.{Standing, sheet-stands}
-use Rattle.text.specs.Laws.Typing.{types-behind, types-within}
-use Rattle.guess.specs.Lines.{behindFeeds}
-use Rattle.rebuild.specs.Laws.Rebuilds.{wrong-is}
+use Rattle.codec.proofs.Laws.Tests.{and_in}
+use Rattle.codec.proofs.Laws.Codec.{octets_all}
+use Rattle.scope.specs.Sheet.{sheet_of}
+use Rattle.sheet.specs.Laws.Whole.{Standing, sheet_stands}
+use Rattle.text.specs.Laws.Typing.{types_behind, types_within}
+use Rattle.guess.specs.Lines.{behind_feeds}
+use Rattle.rebuild.specs.Laws.Rebuilds.{wrong_is}
 use Rattle.rebuild.proofs.wrong.Statement.{statement}
 use Rattle.rebuild.proofs.wrong.Tie as tie
 
-octet-lt : {x : ℕ} → Fits w8 x → x < 256
-octet-lt f = f.fits
+octet_lt : {x : ℕ} → Fits w8 x → x < 256
+octet_lt f = f.fits
 
 -- the sheet of the input stands in front of its array
-input-octets : (c : tie.After-listed) → (let s = c.before.before.before.before in Octets (s.args.cat ∷ s.args.field.now))
-input-octets c =
+input_octets : (c : tie.After-listed) → (let s = c.before.before.before.before in Octets (s.args.cat ∷ s.args.field.now))
+input_octets c =
     let k = c.before.before.before in
     let s = k.before in
     let f = s.args.field.now in
-    and_in (ltb s.args.cat 256) _ (lt→ltb s.args.cat 256 (octet-lt s.ranges.cat)) (octets-all f (λ i. omega (arith, k.shared-slice-known.given i)))
+    and_in (ltb s.args.cat 256) _ (lt→ltb s.args.cat 256 (octet_lt s.ranges.cat)) (octets_all f (λ i. omega (arith, k.shared-slice-known.given i)))
 
-stands : (c : tie.After-listed) → (let s = c.before.before.before.before in Standing (sheetOf (s.args.cat ∷ now s.args.field)) c.listed.new.1.1.0 c.listed.result)
+stands : (c : tie.After-listed) → (let s = c.before.before.before.before in Standing (sheet_of (s.args.cat ∷ now s.args.field)) c.listed.new.1.1.0 c.listed.result)
 stands c =
     let s = c.before.before.before.before in
-    sheet-stands (s.args.cat ∷ now s.args.field) (input-octets c) (length-replicate {A = ℕ} 4_096 0) c.listed.ensures
+    sheet_stands (s.args.cat ∷ now s.args.field) (input_octets c) (length-replicate {A = ℕ} 4_096 0) c.listed.ensures
 
 -- what is typed stands within the other
 within : (c : tie.After-word) → c.word.result ≤ length c.word.new.1.1.0
 within c =
     let p = c.before.before.before.before in
     let q = p.before.before.before in
-    types-within (types-behind q.pair.ensures (types-behind p.pair2.ensures c.word.ensures)) (length-replicate {A = ℕ} 4_096 0) (omega arith)
+    types_within (types_behind q.pair.ensures (types_behind p.pair2.ensures c.word.ensures)) (length-replicate {A = ℕ} 4_096 0) (omega arith)
 
-listed-requires : tie.Need-listed-requires
-listed-requires c κs = search rules
+listed_requires : tie.Need-listed-requires
+listed_requires c κs = search rules
 
-slice-aggregate-pair : tie.Need-slice-aggregate-pair
-slice-aggregate-pair c = search rules
+slice_aggregate_pair : tie.Need-slice-aggregate-pair
+slice_aggregate_pair c = search rules
 
-pair-requires : tie.Need-pair-requires
-pair-requires c κs = search rules
+pair_requires : tie.Need-pair-requires
+pair_requires c κs = search rules
 
-slice-aggregate-pair-2 : tie.Need-slice-aggregate-pair-2
-slice-aggregate-pair-2 c = search rules
+slice_aggregate_pair_2 : tie.Need-slice-aggregate-pair-2
+slice_aggregate_pair_2 c = search rules
 
-pair-requires-2 : tie.Need-pair-requires-2
-pair-requires-2 c κs = search rules
+pair_requires_2 : tie.Need-pair-requires-2
+pair_requires_2 c κs = search rules
 
-array-share-prefix-own : tie.Need-array-share-prefix-own
-array-share-prefix-own c = (stands c.before.before.before.before.before.before).within
+array_share_prefix_own : tie.Need-array-share-prefix-own
+array_share_prefix_own c = (stands c.before.before.before.before.before.before).within
 
-slice-aggregate-skip : tie.Need-slice-aggregate-skip
-slice-aggregate-skip c = (stands c.before.before.before.before.before.before.before).whole
+slice_aggregate_skip : tie.Need-slice-aggregate-skip
+slice_aggregate_skip c = (stands c.before.before.before.before.before.before.before).whole
 
-skip-requires : tie.Need-skip-requires
-skip-requires c κs = search rules
+skip_requires : tie.Need-skip-requires
+skip_requires c κs = search rules
 
-word-requires : tie.Need-word-requires
-word-requires c κs = search rules
+word_requires : tie.Need-word-requires
+word_requires c κs = search rules
 
-array-share-prefix-buf : tie.Need-array-share-prefix-buf
-array-share-prefix-buf c = within c
+array_share_prefix_buf : tie.Need-array-share-prefix-buf
+array_share_prefix_buf c = within c
 
-slice-aggregate-first-wrong : tie.Need-slice-aggregate-first-wrong
-slice-aggregate-first-wrong c = let w = c.before in omega (arith, within w, length-take w.word.result w.word.new.1.1.0)
+slice_aggregate_first_wrong : tie.Need-slice-aggregate-first-wrong
+slice_aggregate_first_wrong c = let w = c.before in omega (arith, within w, length-take w.word.result w.word.new.1.1.0)
 
-first-wrong-requires : tie.Need-first-wrong-requires
-first-wrong-requires c κs = search rules
+first_wrong_requires : tie.Need-first-wrong-requires
+first_wrong_requires c κs = search rules
 
 returns : tie.Need-returns
 returns c =
@@ -86,22 +86,22 @@ returns c =
     let q = p.before.before.before in
     let l = q.before.before.before in
     let a = l.before.before.before.before.args in
-    wrong-is a.cat a.len a.field.now a.text.now (input-octets l) (length-replicate {A = ℕ} 4_096 0) q.pair.ensures p.pair2.ensures (u.skip.ensures ∙ ap (behindFeeds 2) (stands l).text-is) w.word.ensures c.first-wrong.ensures
+    wrong_is a.cat a.len a.field.now a.text.now (input_octets l) (length-replicate {A = ℕ} 4_096 0) q.pair.ensures p.pair2.ensures (u.skip.ensures ∙ ap (behind_feeds 2) (stands l).text_is) w.word.ensures c.first-wrong.ensures
 
-pub wrong-spec : {M : Type 1} → statement M
-wrong-spec =
+pub wrong_spec : {M : Type 1} → statement M
+wrong_spec =
     tie.close
     (tie.spec
-    listed-requires
-    slice-aggregate-pair
-    pair-requires
-    slice-aggregate-pair-2
-    pair-requires-2
-    array-share-prefix-own
-    slice-aggregate-skip
-    skip-requires
-    word-requires
-    array-share-prefix-buf
-    slice-aggregate-first-wrong
-    first-wrong-requires
+    listed_requires
+    slice_aggregate_pair
+    pair_requires
+    slice_aggregate_pair_2
+    pair_requires_2
+    array_share_prefix_own
+    slice_aggregate_skip
+    skip_requires
+    word_requires
+    array_share_prefix_buf
+    slice_aggregate_first_wrong
+    first_wrong_requires
     returns)

@@ -7,18 +7,18 @@ use lib.ListN.{length, length-replicate}
 use Rattle.refdesk.proofs.main.Statement.{statement}
 use Rattle.refdesk.proofs.main.Tie as tie
 
-abbrev invariant-loop : tie.invariant-loop
-invariant-loop line₀ held₀ turns₀ line held turns = 16_385 ≡ length line
+abbrev invariant_loop : tie.invariant-loop
+invariant_loop line₀ held₀ turns₀ line held turns = 16_385 ≡ length line
 
-abbrev decreases-loop : tie.decreases-loop
-decreases-loop line₀ held₀ turns₀ line held turns = turns
+abbrev decreases_loop : tie.decreases-loop
+decreases_loop line₀ held₀ turns₀ line held turns = turns
 
 pub main_spec : {M : Type 1} → statement M
 main_spec =
     tie.close
     (tie.spec
-    invariant-loop
-    decreases-loop
+    invariant_loop
+    decreases_loop
     (λ c. sym (length-replicate {A = ℕ} 16_385 0))
     (λ c. search rules)
     (λ c κs. tt)

@@ -1,6 +1,6 @@
 -- `replies::choice_text` meets its contract: one law at each way out. Assumes nothing.
 use borrow.Author.Rules.{rules}
-use Rattle.replies.specs.Laws.Typed.{choice-ok, choice-refused}
+use Rattle.replies.specs.Laws.Typed.{choice_ok, choice_refused}
 use Rattle.replies.proofs.choice_text.Statement.{statement}
 use Rattle.replies.proofs.choice_text.Tie as tie
 
@@ -11,18 +11,18 @@ returns c =
     let v = o.before.before.before in
     let w = v.before.before in
     let a = w.before.before.args in
-    choice-ok a.choice a.part.now w.which-number.ensures v.view.given.1 o.ok.ensures n.next.ensures c.shown.ensures
+    choice_ok a.choice a.part.now w.which-number.ensures v.view.given.1 o.ok.ensures n.next.ensures c.shown.ensures
 
-returns-2 : tie.Need-returns-2
-returns-2 c =
+returns_2 : tie.Need-returns-2
+returns_2 c =
     let o = c.before.before in
     let v = o.before.before.before in
     let w = v.before.before in
     let a = w.before.before.args in
-    choice-refused a.choice a.part.now w.which-number.ensures v.view2.given.1 o.refusal.ensures c.next2.ensures
+    choice_refused a.choice a.part.now w.which-number.ensures v.view2.given.1 o.refusal.ensures c.next2.ensures
 
-pub choice-text-spec : {M : Type 1} → statement M
-choice-text-spec =
+pub choice_text_spec : {M : Type 1} → statement M
+choice_text_spec =
     tie.close
     (tie.spec
     (λ c κs. tt)
@@ -35,4 +35,4 @@ choice-text-spec =
     (λ c κs. tt)
     (λ c κs. tt)
     returns
-    returns-2)
+    returns_2)

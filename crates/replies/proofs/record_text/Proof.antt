@@ -4,20 +4,20 @@ use native.Mathlib.Omega.{arith}
 use borrow.Author.Rules.{rules}
 use lib.ListN.{take}
 use lib.Seq.{take_all}
-use Rattle.text.specs.Laws.Typing.{types-behind}
-use Rattle.replies.specs.Texts.{recordText}
+use Rattle.text.specs.Laws.Typing.{types_behind}
+use Rattle.replies.specs.Texts.{record_text}
 use Rattle.papers.specs.Papers.{SLOTS}
 use Rattle.replies.proofs.record_text.Statement.{statement}
 use Rattle.replies.proofs.record_text.Tie as tie
 
-slice-aggregate-octet-words : tie.Need-slice-aggregate-octet-words
-slice-aggregate-octet-words c = search rules
+slice_aggregate_octet_words : tie.Need-slice-aggregate-octet-words
+slice_aggregate_octet_words c = search rules
 
-slice-aggregate-number-words : tie.Need-slice-aggregate-number-words
-slice-aggregate-number-words c = search rules
+slice_aggregate_number_words : tie.Need-slice-aggregate-number-words
+slice_aggregate_number_words c = search rules
 
 returns : tie.Need-returns
-unfolding recordText
+unfolding record_text
 returns c =
     let k = c.before.before in
     let o = k.before in
@@ -25,20 +25,20 @@ returns c =
     let n = j.before in
     let m = n.before.before.before in
     let f = m.before.before.before.before.before.args.kept in
-    let p : take 8 f.parts ≡ f.parts = take_all 8 f.parts (omega (arith, slice-aggregate-octet-words j)) in
-    let q : take SLOTS f.numbers ≡ f.numbers = take_all SLOTS f.numbers (omega (arith, slice-aggregate-number-words k)) in
-    rw (p, q) (types-behind m.next.ensures (types-behind n.next2.ensures (types-behind o.octet-words.ensures c.number-words.ensures)))
+    let p : take 8 f.parts ≡ f.parts = take_all 8 f.parts (omega (arith, slice_aggregate_octet_words j)) in
+    let q : take SLOTS f.numbers ≡ f.numbers = take_all SLOTS f.numbers (omega (arith, slice_aggregate_number_words k)) in
+    rw (p, q) (types_behind m.next.ensures (types_behind n.next2.ensures (types_behind o.octet-words.ensures c.number-words.ensures)))
 
-pub record-text-spec : {M : Type 1} → statement M
-record-text-spec =
+pub record_text_spec : {M : Type 1} → statement M
+record_text_spec =
     tie.close
     (tie.spec
     (λ c. search rules)
     (λ c κs. tt)
     (λ c. search rules)
     (λ c κs. tt)
-    slice-aggregate-octet-words
+    slice_aggregate_octet_words
     (λ c κs. tt)
-    slice-aggregate-number-words
+    slice_aggregate_number_words
     (λ c κs. tt)
     returns)

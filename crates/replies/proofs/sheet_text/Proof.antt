@@ -1,5 +1,5 @@
 -- `replies::sheet_text` meets its contract. Assumes nothing.
-use Rattle.replies.specs.Laws.Typed.{sheet-typed}
+use Rattle.replies.specs.Laws.Typed.{sheet_typed}
 use Rattle.replies.proofs.sheet_text.Statement.{statement}
 use Rattle.replies.proofs.sheet_text.Tie as tie
 
@@ -9,7 +9,7 @@ returns c =
     let n = f.before in
     let s = n.before in
     let k = s.before.before in
-    sheet-typed k.before.before.before.args.sheet.now n.less.ensures f.front.ensures k.ok.ensures s.octet.ensures c.line-words.ensures
+    sheet_typed k.before.before.before.args.sheet.now n.less.ensures f.front.ensures k.ok.ensures s.octet.ensures c.line-words.ensures
 
-pub sheet-text-spec : {M : Type 1} → statement M
-sheet-text-spec = tie.close (tie.spec (λ c κs. tt) (λ c κs. tt) (λ c κs. tt) (λ c κs. tt) (λ c κs. tt) returns)
+pub sheet_text_spec : {M : Type 1} → statement M
+sheet_text_spec = tie.close (tie.spec (λ c κs. tt) (λ c κs. tt) (λ c κs. tt) (λ c κs. tt) (λ c κs. tt) returns)

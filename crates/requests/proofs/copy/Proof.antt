@@ -1,34 +1,34 @@
 -- `requests::copy` meets its contract: each word by its kind, and the copy. Assumes nothing.
 use mathlib.Core.Path.{ap, ◌∙◌}
 use native.Mathlib.Omega.{arith}
-use Rattle.words.specs.Numbers.{valueIn}
-use Rattle.hex.specs.Octets.{octetsIn, listIn}
-use Rattle.hex.specs.Laws.Octets.{octets-taken, octets-counted, octets-held}
-use Rattle.requests.specs.Laws.Requests.{word_in, room-held, room-counted, room-is, copy-said}
+use Rattle.words.specs.Numbers.{value_in}
+use Rattle.hex.specs.Octets.{octets_in, list_in}
+use Rattle.hex.specs.Laws.Octets.{octets_taken, octets_counted, octets_held}
+use Rattle.requests.specs.Laws.Requests.{word_in, room_held, room_counted, room_is, copy_said}
 use Rattle.requests.proofs.copy.Statement.{statement}
 use Rattle.requests.proofs.copy.Tie as tie
 
-array-share-prefix-field : tie.Need-array-share-prefix-field
-array-share-prefix-field c =
+array_share_prefix_field : tie.Need-array-share-prefix-field
+array_share_prefix_field c =
     let o = c.before.before.before.before in
-    octets-held _ _ o.before.before.before.before.before.before.blank.ensures o.octets.ensures
+    octets_held _ _ o.before.before.before.before.before.before.blank.ensures o.octets.ensures
 
-slice-aggregate-copied : tie.Need-slice-aggregate-copied
-slice-aggregate-copied c =
+slice_aggregate_copied : tie.Need-slice-aggregate-copied
+slice_aggregate_copied c =
     let o = c.before.before.before.before.before in
-    octets-counted _ _ o.before.before.before.before.before.before.blank.ensures o.octets.ensures
+    octets_counted _ _ o.before.before.before.before.before.before.blank.ensures o.octets.ensures
 
-array-borrow-prefix-out : tie.Need-array-borrow-prefix-out
-array-borrow-prefix-out c =
+array_borrow_prefix_out : tie.Need-array-borrow-prefix-out
+array_borrow_prefix_out c =
     let r = c.before in
     let u = r.before.before.before.before.before.before.before.before.before in
-    room-held _ u.output.result u.output.ensures r.room.ensures
+    room_held _ u.output.result u.output.ensures r.room.ensures
 
-slice-aggregate-copied-2 : tie.Need-slice-aggregate-copied-2
-slice-aggregate-copied-2 c =
+slice_aggregate_copied_2 : tie.Need-slice-aggregate-copied-2
+slice_aggregate_copied_2 c =
     let r = c.before.before in
     let u = r.before.before.before.before.before.before.before.before.before in
-    room-counted _ u.output.result u.output.ensures r.room.ensures
+    room_counted _ u.output.result u.output.ensures r.room.ensures
 
 returns : tie.Need-returns
 returns c =
@@ -44,11 +44,11 @@ returns c =
     let u = w1.before in
     let b = u.before in
     let a = b.before.before.args in
-    copy-said (word_in a.line.now a.starts.now)
-    (s.small.ensures ∙ ap (valueIn 255) w1.word.ensures)
-    (octets-taken _ _ b.blank.ensures o.octets.ensures ∙ ap octetsIn w2.word2.ensures)
-    (l.list.ensures ∙ ap listIn w3.word3.ensures)
-    (room-is _ u.output.result u.output.ensures r.room.ensures ∙ ap (valueIn 300) w4.word4.ensures)
+    copy_said (word_in a.line.now a.starts.now)
+    (s.small.ensures ∙ ap (value_in 255) w1.word.ensures)
+    (octets_taken _ _ b.blank.ensures o.octets.ensures ∙ ap octets_in w2.word2.ensures)
+    (l.list.ensures ∙ ap list_in w3.word3.ensures)
+    (room_is _ u.output.result u.output.ensures r.room.ensures ∙ ap (value_in 300) w4.word4.ensures)
     v.copied.ensures
 
 pub copy_spec : {M : Type 1} → statement M
@@ -65,9 +65,9 @@ copy_spec =
     (λ c κs. tt)
     (λ c κs. omega arith)
     (λ c κs. tt)
-    array-share-prefix-field
-    slice-aggregate-copied
-    array-borrow-prefix-out
-    slice-aggregate-copied-2
+    array_share_prefix_field
+    slice_aggregate_copied
+    array_borrow_prefix_out
+    slice_aggregate_copied_2
     (λ c κs. tt)
     returns)

@@ -1,42 +1,42 @@
 -- `requests::replace` meets its contract: each word by its kind, and the edit. Assumes nothing.
 use mathlib.Core.Path.{ap, ◌∙◌}
 use native.Mathlib.Omega.{arith}
-use Rattle.words.specs.Numbers.{valueIn}
-use Rattle.hex.specs.Octets.{octetsIn, listIn}
-use Rattle.hex.specs.Laws.Octets.{octets-taken, octets-counted, octets-held}
-use Rattle.requests.specs.Laws.Requests.{word_in, room-held, room-counted, room-is, replace-said}
+use Rattle.words.specs.Numbers.{value_in}
+use Rattle.hex.specs.Octets.{octets_in, list_in}
+use Rattle.hex.specs.Laws.Octets.{octets_taken, octets_counted, octets_held}
+use Rattle.requests.specs.Laws.Requests.{word_in, room_held, room_counted, room_is, replace_said}
 use Rattle.requests.proofs.replace.Statement.{statement}
 use Rattle.requests.proofs.replace.Tie as tie
 
-array-share-prefix-field : tie.Need-array-share-prefix-field
-array-share-prefix-field c =
+array_share_prefix_field : tie.Need-array-share-prefix-field
+array_share_prefix_field c =
     let o = c.before.before.before.before.before.before.before.before.before in
-    octets-held _ _ o.before.before.before.before.before.before.before.blank.ensures o.octets.ensures
+    octets_held _ _ o.before.before.before.before.before.before.before.blank.ensures o.octets.ensures
 
-slice-aggregate-replaced : tie.Need-slice-aggregate-replaced
-slice-aggregate-replaced c =
+slice_aggregate_replaced : tie.Need-slice-aggregate-replaced
+slice_aggregate_replaced c =
     let o = c.before.before.before.before.before.before.before.before.before.before in
-    octets-counted _ _ o.before.before.before.before.before.before.before.blank.ensures o.octets.ensures
+    octets_counted _ _ o.before.before.before.before.before.before.before.blank.ensures o.octets.ensures
 
-array-share-prefix-new : tie.Need-array-share-prefix-new
-array-share-prefix-new c =
+array_share_prefix_new : tie.Need-array-share-prefix-new
+array_share_prefix_new c =
     let o = c.before.before.before in
-    octets-held _ _ o.before.before.before.before.before.before.before.before.before.before.before.before.before.blank2.ensures o.octets2.ensures
+    octets_held _ _ o.before.before.before.before.before.before.before.before.before.before.before.before.before.blank2.ensures o.octets2.ensures
 
-slice-aggregate-replaced-2 : tie.Need-slice-aggregate-replaced-2
-slice-aggregate-replaced-2 c =
+slice_aggregate_replaced_2 : tie.Need-slice-aggregate-replaced-2
+slice_aggregate_replaced_2 c =
     let o = c.before.before.before.before in
-    octets-counted _ _ o.before.before.before.before.before.before.before.before.before.before.before.before.before.blank2.ensures o.octets2.ensures
+    octets_counted _ _ o.before.before.before.before.before.before.before.before.before.before.before.before.before.blank2.ensures o.octets2.ensures
 
-array-borrow-prefix-out : tie.Need-array-borrow-prefix-out
-array-borrow-prefix-out c =
+array_borrow_prefix_out : tie.Need-array-borrow-prefix-out
+array_borrow_prefix_out c =
     let r = c.before.before in
-    room-held _ r.before.before.before.before.before.before.before.before.before.before.before.before.before.before.output.result r.before.before.before.before.before.before.before.before.before.before.before.before.before.before.output.ensures r.room.ensures
+    room_held _ r.before.before.before.before.before.before.before.before.before.before.before.before.before.before.output.result r.before.before.before.before.before.before.before.before.before.before.before.before.before.before.output.ensures r.room.ensures
 
-slice-aggregate-replaced-3 : tie.Need-slice-aggregate-replaced-3
-slice-aggregate-replaced-3 c =
+slice_aggregate_replaced_3 : tie.Need-slice-aggregate-replaced-3
+slice_aggregate_replaced_3 c =
     let r = c.before.before.before in
-    room-counted _ r.before.before.before.before.before.before.before.before.before.before.before.before.before.before.output.result r.before.before.before.before.before.before.before.before.before.before.before.before.before.before.output.ensures r.room.ensures
+    room_counted _ r.before.before.before.before.before.before.before.before.before.before.before.before.before.before.output.result r.before.before.before.before.before.before.before.before.before.before.before.before.before.before.output.ensures r.room.ensures
 
 returns : tie.Need-returns
 returns c =
@@ -57,13 +57,13 @@ returns c =
     let b2 = u.before in
     let b1 = b2.before in
     let a = b1.before.before.args in
-    replace-said (word_in a.line.now a.starts.now)
-    (s.small.ensures ∙ ap (valueIn 255) w1.word.ensures)
-    (octets-taken _ _ b1.blank.ensures o.octets.ensures ∙ ap octetsIn w2.word2.ensures)
-    (l.list.ensures ∙ ap listIn w3.word3.ensures)
-    (s2.small2.ensures ∙ ap (valueIn 255) w4.word4.ensures)
-    (octets-taken _ _ b2.blank2.ensures o2.octets2.ensures ∙ ap octetsIn w5.word5.ensures)
-    (room-is _ u.output.result u.output.ensures r.room.ensures ∙ ap (valueIn 300) w6.word6.ensures)
+    replace_said (word_in a.line.now a.starts.now)
+    (s.small.ensures ∙ ap (value_in 255) w1.word.ensures)
+    (octets_taken _ _ b1.blank.ensures o.octets.ensures ∙ ap octets_in w2.word2.ensures)
+    (l.list.ensures ∙ ap list_in w3.word3.ensures)
+    (s2.small2.ensures ∙ ap (value_in 255) w4.word4.ensures)
+    (octets_taken _ _ b2.blank2.ensures o2.octets2.ensures ∙ ap octets_in w5.word5.ensures)
+    (room_is _ u.output.result u.output.ensures r.room.ensures ∙ ap (value_in 300) w6.word6.ensures)
     v.replaced.ensures
 
 pub replace_spec : {M : Type 1} → statement M
@@ -85,11 +85,11 @@ replace_spec =
     (λ c κs. tt)
     (λ c κs. omega arith)
     (λ c κs. tt)
-    array-share-prefix-field
-    slice-aggregate-replaced
-    array-share-prefix-new
-    slice-aggregate-replaced-2
-    array-borrow-prefix-out
-    slice-aggregate-replaced-3
+    array_share_prefix_field
+    slice_aggregate_replaced
+    array_share_prefix_new
+    slice_aggregate_replaced_2
+    array_borrow_prefix_out
+    slice_aggregate_replaced_3
     (λ c κs. tt)
     returns)

@@ -1,22 +1,22 @@
 -- `requests::view` meets its contract: each word by its kind, and the view. Assumes nothing.
 use mathlib.Core.Path.{ap, ◌∙◌}
 use native.Mathlib.Omega.{arith}
-use Rattle.words.specs.Numbers.{valueIn}
-use Rattle.hex.specs.Octets.{octetsIn}
-use Rattle.hex.specs.Laws.Octets.{octets-taken, octets-counted, octets-held}
-use Rattle.requests.specs.Laws.Requests.{word_in, view-said}
+use Rattle.words.specs.Numbers.{value_in}
+use Rattle.hex.specs.Octets.{octets_in}
+use Rattle.hex.specs.Laws.Octets.{octets_taken, octets_counted, octets_held}
+use Rattle.requests.specs.Laws.Requests.{word_in, view_said}
 use Rattle.requests.proofs.view.Statement.{statement}
 use Rattle.requests.proofs.view.Tie as tie
 
-array-share-prefix-field : tie.Need-array-share-prefix-field
-array-share-prefix-field c =
+array_share_prefix_field : tie.Need-array-share-prefix-field
+array_share_prefix_field c =
     let o = c.before.before in
-    octets-held _ _ o.before.before.before.before.before.blank.ensures o.octets.ensures
+    octets_held _ _ o.before.before.before.before.before.blank.ensures o.octets.ensures
 
-slice-aggregate-viewed : tie.Need-slice-aggregate-viewed
-slice-aggregate-viewed c =
+slice_aggregate_viewed : tie.Need-slice-aggregate-viewed
+slice_aggregate_viewed c =
     let o = c.before.before.before in
-    octets-counted _ _ o.before.before.before.before.before.blank.ensures o.octets.ensures
+    octets_counted _ _ o.before.before.before.before.before.blank.ensures o.octets.ensures
 
 returns : tie.Need-returns
 returns c =
@@ -28,14 +28,14 @@ returns c =
     let w1 = s.before in
     let b = w1.before in
     let a = b.before.before.args in
-    view-said (word_in a.line.now a.starts.now)
-    (s.small.ensures ∙ ap (valueIn 255) w1.word.ensures)
-    (octets-taken _ _ b.blank.ensures o.octets.ensures ∙ ap octetsIn w2.word2.ensures)
-    (s2.small2.ensures ∙ ap (valueIn 255) w3.word3.ensures)
+    view_said (word_in a.line.now a.starts.now)
+    (s.small.ensures ∙ ap (value_in 255) w1.word.ensures)
+    (octets_taken _ _ b.blank.ensures o.octets.ensures ∙ ap octets_in w2.word2.ensures)
+    (s2.small2.ensures ∙ ap (value_in 255) w3.word3.ensures)
     c.viewed.ensures
 
-pub view-spec : {M : Type 1} → statement M
-view-spec =
+pub view_spec : {M : Type 1} → statement M
+view_spec =
     tie.close
     (tie.spec
     (λ c κs. tt)
@@ -45,7 +45,7 @@ view-spec =
     (λ c κs. tt)
     (λ c κs. omega arith)
     (λ c κs. tt)
-    array-share-prefix-field
-    slice-aggregate-viewed
+    array_share_prefix_field
+    slice_aggregate_viewed
     (λ c κs. tt)
     returns)

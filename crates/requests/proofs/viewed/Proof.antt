@@ -5,7 +5,7 @@ use Rattle.requests.proofs.viewed.Tie as tie
 returns : tie.Need-returns
 returns c =
     let v = c.before.before in
-    rw (v.before.view-answer.ensures, v.view.ensures.0) at c.view-text.ensures
+    rw (v.before.view_answer.ensures, v.view.ensures.0) at c.view-text.ensures
 
-pub viewed-spec : {M : Type 1} → statement M
-viewed-spec = tie.close (tie.spec (λ c κs. tt) (λ c κs. tt) (λ c κs. tt) returns)
+pub viewed_spec : {M : Type 1} → statement M
+viewed_spec = tie.close (tie.spec (λ c κs. tt) (λ c κs. tt) (λ c κs. tt) returns)

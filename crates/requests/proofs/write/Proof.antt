@@ -2,20 +2,20 @@
 use mathlib.Core.Path.{ap, ◌∙◌}
 use native.Mathlib.Omega.{arith}
 use borrow.Author.Rules.{rules}
-use Rattle.words.specs.Numbers.{valueIn}
-use Rattle.requests.specs.Laws.Requests.{word_in, wordsFrom, room-held, room-counted, room-is, record_is, write-said}
+use Rattle.words.specs.Numbers.{value_in}
+use Rattle.requests.specs.Laws.Requests.{word_in, words_from, room_held, room_counted, room_is, record_is, write_said}
 use Rattle.requests.proofs.write.Statement.{statement}
 use Rattle.requests.proofs.write.Tie as tie
 
-array-borrow-prefix-out : tie.Need-array-borrow-prefix-out
-array-borrow-prefix-out c =
+array_borrow_prefix_out : tie.Need-array-borrow-prefix-out
+array_borrow_prefix_out c =
     let r = c.before.before in
-    room-held _ r.before.before.output.result r.before.before.output.ensures r.room.ensures
+    room_held _ r.before.before.output.result r.before.before.output.ensures r.room.ensures
 
-slice-aggregate-written : tie.Need-slice-aggregate-written
-slice-aggregate-written c =
+slice_aggregate_written : tie.Need-slice-aggregate-written
+slice_aggregate_written c =
     let r = c.before.before.before in
-    room-counted _ r.before.before.output.result r.before.before.output.ensures r.room.ensures
+    room_counted _ r.before.before.output.result r.before.before.output.ensures r.room.ensures
 
 returns : tie.Need-returns
 returns c =
@@ -26,9 +26,9 @@ returns c =
     let u = w.before in
     let s = u.before.before in
     let a = s.args in
-    write-said (word_in a.line.now a.starts.now) (wordsFrom a.line.now a.starts.now)
+    write_said (word_in a.line.now a.starts.now) (words_from a.line.now a.starts.now)
     (record_is a.line.now _ s.requires k.record-at.ensures)
-    (room-is _ u.output.result u.output.ensures r.room.ensures ∙ ap (valueIn 300) w.word.ensures)
+    (room_is _ u.output.result u.output.ensures r.room.ensures ∙ ap (value_in 300) w.word.ensures)
     v.written.ensures
 
 pub write_spec : {M : Type 1} → statement M
@@ -40,7 +40,7 @@ write_spec =
     (λ c κs. tt)
     (λ c. search rules)
     (λ c κs. tt)
-    array-borrow-prefix-out
-    slice-aggregate-written
+    array_borrow_prefix_out
+    slice_aggregate_written
     (λ c κs. tt)
     returns)

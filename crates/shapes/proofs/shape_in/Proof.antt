@@ -5,22 +5,22 @@ use Rattle.papers.specs.Cat048.{cat048}
 use Rattle.papers.specs.Cat021.{cat021}
 use Rattle.papers.specs.Cat007.{cat007}
 use Rattle.lengths.specs.Lines.{items}
-use Rattle.shapes.specs.Shapes.{NO_LINE, shape_of, shapesFrom, shapes, shape_at}
+use Rattle.shapes.specs.Shapes.{NO_LINE, shape_of, shapes_from, shapes, shape_at}
 use Rattle.shapes.specs.Laws.Shapes.{within}
 use Rattle.shapes.proofs.shape_in.Statement.{statement}
 use Rattle.shapes.proofs.shape_in.Tie as tie
 
-mul-result : tie.Need-overflow-mul-result
-mul-result c = search rules
+mul_result : tie.Need-overflow-mul-result
+mul_result c = search rules
 
-array-copy-out-result : tie.Need-array-copy-out-result
-array-copy-out-result c = search rules
+array_copy_out_result : tie.Need-array-copy-out-result
+array_copy_out_result c = search rules
 
 returns : tie.Need-returns
-unfolding shape_at shapes shapesFrom shape_of lines_of items cat048 cat021 cat007
+unfolding shape_at shapes shapes_from shape_of lines_of items cat048 cat021 cat007
 returns c =
     let h = c.before.requires in
     rw (h.0, ← h.1) (within shapes (0, 0, 0) (NO_LINE, 0, 0) c.before.args.i h.2)
 
-pub shape-in-spec : {M : Type 1} → statement M
-shape-in-spec = tie.close (tie.spec mul-result array-copy-out-result returns)
+pub shape_in_spec : {M : Type 1} → statement M
+shape_in_spec = tie.close (tie.spec mul_result array_copy_out_result returns)

@@ -5,13 +5,13 @@ use Rattle.papers.specs.Cat048.{cat048}
 use Rattle.papers.specs.Cat021.{cat021}
 use Rattle.papers.specs.Cat007.{cat007}
 use Rattle.lengths.specs.Lines.{items}
-use Rattle.shapes.specs.Shapes.{shape_of, shapesFrom, shapes}
+use Rattle.shapes.specs.Shapes.{shape_of, shapes_from, shapes}
 use Rattle.shapes.proofs.table_of_shapes.Statement.{statement}
 use Rattle.shapes.proofs.table_of_shapes.Tie as tie
 
 returns : tie.Need-returns
-unfolding shapes shapesFrom shape_of lines_of items cat048 cat021 cat007
+unfolding shapes shapes_from shape_of lines_of items cat048 cat021 cat007
 returns c = refl
 
-pub table-of-shapes-spec : {M : Type 1} → statement M
-table-of-shapes-spec = tie.close (tie.spec returns)
+pub table_of_shapes_spec : {M : Type 1} → statement M
+table_of_shapes_spec = tie.close (tie.spec returns)

@@ -5,9 +5,9 @@ use native.Mathlib.Omega.{arith}
 use mir.Facts.{Fits-of_lt}
 use Rattle.codec.specs.Field.{flags}
 use Rattle.spots.specs.declared.Spot.{Spot}
-use Rattle.text.specs.Laws.Typing.{types-as}
+use Rattle.text.specs.Laws.Typing.{types_as}
 use Rattle.sheet.specs.Items.{named_at}
-use Rattle.sheet.specs.Laws.Rows.{names-end, names-there, names-not}
+use Rattle.sheet.specs.Laws.Rows.{names_end, names_there, names_not}
 use borrow.Fn.Kinds.{In}
 use borrow.Fn.PlainCycle.{Measures, is, falls, and}
 use Rattle.sheet.proofs.names.Reads as names
@@ -21,57 +21,57 @@ use Rattle.spots.proofs.spot_at.Reads as spot-at-reads
 use Rattle.sheet.proofs.+names.{statement}
 use Rattle.sheet.proofs.+names.Tie.{close}
 
-abbrev μ-names : Measures 1 names-kinds.ps ℕ
-μ-names κs a = a.1.1.1.0
+abbrev μ_names : Measures 1 names-kinds.ps ℕ
+μ_names κs a = a.1.1.1.0
 
 abbrev names_at : ℕ → In 1 names-kinds.ps
-names_at t = and 1 names-kinds.ps (is 1 names-kinds.ps μ-names t) names.Pre
+names_at t = and 1 names-kinds.ps (is 1 names-kinds.ps μ_names t) names.Pre
 
-abbrev names-below : ℕ → In 1 names-kinds.ps
-names-below t = and 1 names-kinds.ps (falls 1 names-kinds.ps ◌<◌ μ-names t) names.Pre
+abbrev names_below : ℕ → In 1 names-kinds.ps
+names_below t = and 1 names-kinds.ps (falls 1 names-kinds.ps ◌<◌ μ_names t) names.Pre
 
 -- what is known of the functions that it calls
 abbrev calls : ℕ → names-lts.Claims
-calls t = (present-reads.Asked, present-reads.Learnt, comma-reads.Asked, comma-reads.Learnt, spot-at-reads.Asked, spot-at-reads.Learnt, wide-reads.Asked, wide-reads.Learnt, name-reads.Asked, name-reads.Learnt, names-below t, names.Post)
+calls t = (present-reads.Asked, present-reads.Learnt, comma-reads.Asked, comma-reads.Learnt, spot-at-reads.Asked, spot-at-reads.Learnt, wide-reads.Asked, wide-reads.Learnt, name-reads.Asked, name-reads.Learnt, names_below t, names.Post)
 
-names-returns : (t : ℕ) → names-lts.Need-returns (calls t) (names_at t) names.Post
-names-returns t c =
+names_returns : (t : ℕ) → names-lts.Need-returns (calls t) (names_at t) names.Post
+names_returns t c =
     let a = c.before.args in
-    names-end a.first (flags a.items) a.k a.i a.left c.if1.true a.buf.now a.at
+    names_end a.first (flags a.items) a.k a.i a.left c.if1.true a.buf.now a.at
 
-names-present-requires : (t : ℕ) → names-lts.Need-present-requires (calls t) (names_at t) names.Post
-names-present-requires t c κs = tt
+names_present_requires : (t : ℕ) → names-lts.Need-present-requires (calls t) (names_at t) names.Post
+names_present_requires t c κs = tt
 
-names-comma-requires : (t : ℕ) → names-lts.Need-comma-requires (calls t) (names_at t) names.Post
-names-comma-requires t c κs = tt
+names_comma_requires : (t : ℕ) → names-lts.Need-comma-requires (calls t) (names_at t) names.Post
+names_comma_requires t c κs = tt
 
-names-spot-at-requires : (t : ℕ) → names-lts.Need-spot-at-requires (calls t) (names_at t) names.Post
-names-spot-at-requires t c κs = tt
+names_spot_at_requires : (t : ℕ) → names-lts.Need-spot-at-requires (calls t) (names_at t) names.Post
+names_spot_at_requires t c κs = tt
 
-names-wide-requires : (t : ℕ) → names-lts.Need-wide-requires (calls t) (names_at t) names.Post
-names-wide-requires t c κs = tt
+names_wide_requires : (t : ℕ) → names-lts.Need-wide-requires (calls t) (names_at t) names.Post
+names_wide_requires t c κs = tt
 
-names-name-requires : (t : ℕ) → names-lts.Need-name-requires (calls t) (names_at t) names.Post
-names-name-requires t c κs = tt
+names_name_requires : (t : ℕ) → names-lts.Need-name-requires (calls t) (names_at t) names.Post
+names_name_requires t c κs = tt
 
-names-add-names : (t : ℕ) → names-lts.Need-overflow-add-names (calls t) (names_at t) names.Post
-names-add-names t c = let g = c.before.before.before.before.before.before.before.before.before.requires.1 in Fits-of_lt (omega (arith, g))
+names_add_names : (t : ℕ) → names-lts.Need-overflow-add-names (calls t) (names_at t) names.Post
+names_add_names t c = let g = c.before.before.before.before.before.before.before.before.before.requires.1 in Fits-of_lt (omega (arith, g))
 
-names-add-names-2 : (t : ℕ) → names-lts.Need-overflow-add-names-2 (calls t) (names_at t) names.Post
-names-add-names-2 t c = let g = c.before.before.before.before.before.before.before.before.before.requires.1 in Fits-of_lt (omega (arith, g))
+names_add_names_2 : (t : ℕ) → names-lts.Need-overflow-add-names-2 (calls t) (names_at t) names.Post
+names_add_names_2 t c = let g = c.before.before.before.before.before.before.before.before.before.requires.1 in Fits-of_lt (omega (arith, g))
 
-names-sub-names : (t : ℕ) → names-lts.Need-overflow-sub-names (calls t) (names_at t) names.Post
-names-sub-names t c = omega arith
+names_sub_names : (t : ℕ) → names-lts.Need-overflow-sub-names (calls t) (names_at t) names.Post
+names_sub_names t c = omega arith
 
-names-names-requires : (t : ℕ) → names-lts.Need-names-requires (calls t) (names_at t) names.Post
-names-names-requires t c κs =
+names_names_requires : (t : ℕ) → names-lts.Need-names-requires (calls t) (names_at t) names.Post
+names_names_requires t c κs =
     let e = c.before.before.before.before.before.before.before.before.before in
     let s = e.before in
     let g = s.requires.1 in
     (omega (arith, s.requires.0, e.if1.false), (omega (arith, g, e.if1.false), omega (arith, g, e.if1.false)))
 
-names-returns-2 : (t : ℕ) → names-lts.Need-returns-2 (calls t) (names_at t) names.Post
-names-returns-2 t c =
+names_returns_2 : (t : ℕ) → names-lts.Need-returns-2 (calls t) (names_at t) names.Post
+names_returns_2 t c =
     let n = c.before.before in
     let w = n.before.before in
     let p = w.before in
@@ -80,50 +80,50 @@ names-returns-2 t c =
     let h = i.before in
     let e = h.before in
     let a = e.before.args in
-    names-there a.first (flags a.items) a.k a.i a.left e.if1.false h.present.ensures i.if2.true o.comma.ensures
-    (types-as (ap (λ j. (named_at j).name) (w.wide.ensures.0 ∙ ap (λ (x : Spot). x.0) p.spot-at.ensures)) n.name.ensures) c.names.ensures
+    names_there a.first (flags a.items) a.k a.i a.left e.if1.false h.present.ensures i.if2.true o.comma.ensures
+    (types_as (ap (λ j. (named_at j).name) (w.wide.ensures.0 ∙ ap (λ (x : Spot). x.0) p.spot-at.ensures)) n.name.ensures) c.names.ensures
 
-names-add-names-3 : (t : ℕ) → names-lts.Need-overflow-add-names-3 (calls t) (names_at t) names.Post
-names-add-names-3 t c = let g = c.before.before.before.requires.1 in Fits-of_lt (omega (arith, g))
+names_add_names_3 : (t : ℕ) → names-lts.Need-overflow-add-names-3 (calls t) (names_at t) names.Post
+names_add_names_3 t c = let g = c.before.before.before.requires.1 in Fits-of_lt (omega (arith, g))
 
-names-add-names-4 : (t : ℕ) → names-lts.Need-overflow-add-names-4 (calls t) (names_at t) names.Post
-names-add-names-4 t c = let g = c.before.before.before.requires.1 in Fits-of_lt (omega (arith, g))
+names_add_names_4 : (t : ℕ) → names-lts.Need-overflow-add-names-4 (calls t) (names_at t) names.Post
+names_add_names_4 t c = let g = c.before.before.before.requires.1 in Fits-of_lt (omega (arith, g))
 
-names-sub-names-2 : (t : ℕ) → names-lts.Need-overflow-sub-names-2 (calls t) (names_at t) names.Post
-names-sub-names-2 t c = omega arith
+names_sub_names_2 : (t : ℕ) → names-lts.Need-overflow-sub-names-2 (calls t) (names_at t) names.Post
+names_sub_names_2 t c = omega arith
 
-names-names-requires-2 : (t : ℕ) → names-lts.Need-names-requires-2 (calls t) (names_at t) names.Post
-names-names-requires-2 t c κs =
+names_names_requires_2 : (t : ℕ) → names-lts.Need-names-requires-2 (calls t) (names_at t) names.Post
+names_names_requires_2 t c κs =
     let e = c.before.before.before in
     let s = e.before in
     let g = s.requires.1 in
     (omega (arith, s.requires.0, e.if1.false), (omega (arith, g, e.if1.false), omega (arith, g, e.if1.false)))
 
-names-returns-3 : (t : ℕ) → names-lts.Need-returns-3 (calls t) (names_at t) names.Post
-names-returns-3 t c =
+names_returns_3 : (t : ℕ) → names-lts.Need-returns-3 (calls t) (names_at t) names.Post
+names_returns_3 t c =
     let i = c.before.before in
     let h = i.before in
     let e = h.before in
     let a = e.before.args in
-    names-not a.first (flags a.items) a.k a.i a.left e.if1.false h.present.ensures i.if2.false c.names2.ensures
+    names_not a.first (flags a.items) a.k a.i a.left e.if1.false h.present.ensures i.if2.false c.names2.ensures
 
 pub +names-spec : {M : Type 1} → statement M
-+names-spec = close μ-names λ t. names-lts.spec (calls t)
++names-spec = close μ_names λ t. names-lts.spec (calls t)
     (names_at t)
     names.Post
-    (names-returns t)
-    (names-present-requires t)
-    (names-comma-requires t)
-    (names-spot-at-requires t)
-    (names-wide-requires t)
-    (names-name-requires t)
-    (names-add-names t)
-    (names-add-names-2 t)
-    (names-sub-names t)
-    (names-names-requires t)
-    (names-returns-2 t)
-    (names-add-names-3 t)
-    (names-add-names-4 t)
-    (names-sub-names-2 t)
-    (names-names-requires-2 t)
-    (names-returns-3 t)
+    (names_returns t)
+    (names_present_requires t)
+    (names_comma_requires t)
+    (names_spot_at_requires t)
+    (names_wide_requires t)
+    (names_name_requires t)
+    (names_add_names t)
+    (names_add_names_2 t)
+    (names_sub_names t)
+    (names_names_requires t)
+    (names_returns_2 t)
+    (names_add_names_3 t)
+    (names_add_names_4 t)
+    (names_sub_names_2 t)
+    (names_names_requires_2 t)
+    (names_returns_3 t)

@@ -2,7 +2,7 @@
 use mathlib.Core.Path.{ap, ◌∙◌}
 use native.Mathlib.Omega.{arith}
 use Rattle.spots.specs.declared.Spot.{Spot}
-use Rattle.sheet.specs.Laws.Rows.{place-there, place-not}
+use Rattle.sheet.specs.Laws.Rows.{place_there, place_not}
 use Rattle.sheet.proofs.place.Statement.{statement}
 use Rattle.sheet.proofs.place.Tie as tie
 
@@ -15,11 +15,11 @@ returns c =
     let i = p.before in
     let s = i.before in
     let a = s.args in
-    place-there a.k a.count a.numbers.now i.if1.true s.requires.0 s.requires.1
+    place_there a.k a.count a.numbers.now i.if1.true s.requires.0 s.requires.1
     (w1.wide.ensures.0 ∙ ap (λ (x : Spot). x.0) p.spot-at.ensures) (w3.wide3.ensures.0 ∙ ap (λ (x : Spot). x.1) p.spot-at.ensures) w2.wide2.ensures.0 c.named.ensures
 
-returns-2 : tie.Need-returns-2
-returns-2 c = let a = c.before.args in place-not a.k a.count a.numbers.now c.if1.false a.buf.now a.at
+returns_2 : tie.Need-returns-2
+returns_2 c = let a = c.before.args in place_not a.k a.count a.numbers.now c.if1.false a.buf.now a.at
 
-pub place-spec : {M : Type 1} → statement M
-place-spec = tie.close (tie.spec (λ c κs. tt) (λ c κs. tt) (λ c κs. tt) (λ c κs. tt) (λ c κs. omega (arith, c.before.wide3.ensures.1)) returns returns-2)
+pub place_spec : {M : Type 1} → statement M
+place_spec = tie.close (tie.spec (λ c κs. tt) (λ c κs. tt) (λ c κs. tt) (λ c κs. tt) (λ c κs. omega (arith, c.before.wide3.ensures.1)) returns returns_2)

@@ -1,6 +1,6 @@
 -- `sheet::typed` meets its contract: one law at each way out. Assumes nothing.
 use borrow.Author.Rules.{rules}
-use Rattle.sheet.specs.Laws.Whole.{sheet-empty, sheet-parts}
+use Rattle.sheet.specs.Laws.Whole.{sheet_empty, sheet_parts}
 use Rattle.sheet.proofs.typed.Statement.{statement}
 use Rattle.sheet.proofs.typed.Tie as tie
 
@@ -8,12 +8,12 @@ returns : tie.Need-returns
 returns c =
     let w = c.before.before in
     let i = w.before.before.before in
-    sheet-empty i.before.before.args.input.now i.if1.true w.word.ensures c.refusal.ensures
+    sheet_empty i.before.before.args.input.now i.if1.true w.word.ensures c.refusal.ensures
 
-returns-2 : tie.Need-returns-2
-returns-2 c =
+returns_2 : tie.Need-returns-2
+returns_2 c =
     let i = c.before.before.before.before in
-    sheet-parts i.before.before.args.input.now i.if1.false c.listed.ensures
+    sheet_parts i.before.before.args.input.now i.if1.false c.listed.ensures
 
 pub typed_spec : {M : Type 1} → statement M
 typed_spec =
@@ -28,4 +28,4 @@ typed_spec =
     (λ c. search rules)
     (λ c. search rules)
     (λ c κs. tt)
-    returns-2)
+    returns_2)

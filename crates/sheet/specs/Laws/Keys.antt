@@ -2,10 +2,10 @@
 -- which says how the word's numbers stand on the sheet.
 use Rattle.std.specs.Prelude.{List, [], ◌∷◌, ℕ, zero, suc, take, drop}
 use Rattle.papers.specs.Names.{Key}
-use Rattle.sheet.specs.Keys.{keysFrom, span}
+use Rattle.sheet.specs.Keys.{keys_from, span}
 
 -- the keys of so many groups
 unfoldable pub groups : ℕ → List ℕ → List (List Key)
-unfolding keysFrom span
+unfolding keys_from span
 groups zero t = []
-groups (suc n) t = keysFrom [] (take (span t) t) ∷ groups n (drop (span t) t)
+groups (suc n) t = keys_from [] (take (span t) t) ∷ groups n (drop (span t) t)

@@ -5,21 +5,21 @@ use Rattle.std.proofs.Common.{sym, ◌∙◌, add-one, arith, eq-eqb, ne_eqb, dr
 use mathlib.Core.List.{List, []}
 use Rattle.std.proofs.Math.ListN.{drop, length-drop}
 use Rattle.codec.specs.Pick.{pick}
-use Rattle.codec.specs.Item.{isOne}
-use Rattle.layout.specs.Record.{numberAt}
+use Rattle.codec.specs.Item.{is_one}
+use Rattle.layout.specs.Record.{number_at}
 use Rattle.lengths.specs.Lines.{line_at, first_at}
 use Rattle.shapes.specs.declared.Shape.{Shape}
 use Rattle.shapes.specs.Shapes.{shape_at}
 use Rattle.text.specs.Typing.{Types}
-use Rattle.text.specs.Laws.Typing.{types-as, types-behind, types-none}
-use Rattle.sheet.specs.Keys.{span, keysFrom, keyed}
-use Rattle.sheet.specs.Lines.{isThere, lineKeyed, linesKeyed, itemKeyed}
+use Rattle.text.specs.Laws.Typing.{types_as, types_behind, types_none}
+use Rattle.sheet.specs.Keys.{span, keys_from, keyed}
+use Rattle.sheet.specs.Lines.{is_there, line_keyed, lines_keyed, item_keyed}
 
 -- ---- the ways out of `span`
 
-pub span-end : (t : List ℕ) (i : ℕ) → length t ≤ i → span t ≡ i + span (drop i t) → i ≡ span t
+pub span_end : (t : List ℕ) (i : ℕ) → length t ≤ i → span t ≡ i + span (drop i t) → i ≡ span t
 unfolding span
-span-end t i h e = let z : span (drop i t) ≡ 0 = ap span (drop_of_length-le t h) in omega arith
+span_end t i h e = let z : span (drop i t) ≡ 0 = ap span (drop_of_length-le t h) in omega arith
 
 module _ (t : List ℕ) (i : ℕ) (h : i < length t) (e : span t ≡ i + span (drop i t)) where
   here : span (drop i t) ≡ suc (pick (eqb (get_or t i 0) 32) 0 (span (drop (suc i) t)))
@@ -29,62 +29,62 @@ module _ (t : List ℕ) (i : ℕ) (h : i < length t) (e : span t ≡ i + span (d
   pub span-found : get_or t i 0 ≡ 32 → i + 1 ≡ span t
   span-found k = let z : span (drop i t) ≡ 1 = here ∙ rw (eq-eqb (get_or t i 0) 32 k) refl in omega arith
 
-  pub span-on : (get_or t i 0 ≡ 32 → ⊥) → span t ≡ i + 1 + span (drop (i + 1) t)
-  span-on k =
+  pub span_on : (get_or t i 0 ≡ 32 → ⊥) → span t ≡ i + 1 + span (drop (i + 1) t)
+  span_on k =
       let z : span (drop i t) ≡ suc (span (drop (i + 1) t)) = here ∙ rw (ne_eqb (get_or t i 0) 32 k) (ap (λ j. suc (span (drop j t))) (sym (add-one i))) in
       omega arith
 
 -- ---- the ways out of `is_there` and `line`
 
 module _ (ns : List ℤ) (n b parts base : ℕ) where
-  pub there-sub : parts ≡ 0 → {f : ℕ} → f ≡ (line_at b).flag → {t : Bool} → t ≡ isOne (numberAt ns (base + f)) → t ≡ isThere ns n b parts base
-  unfolding isThere
-  there-sub z ef et = et ∙ ap (λ f. isOne (numberAt ns (base + f))) ef ∙ rw (eq-eqb parts 0 z) refl
+  pub there_sub : parts ≡ 0 → {f : ℕ} → f ≡ (line_at b).flag → {t : Bool} → t ≡ is_one (number_at ns (base + f)) → t ≡ is_there ns n b parts base
+  unfolding is_there
+  there_sub z ef et = et ∙ ap (λ f. is_one (number_at ns (base + f))) ef ∙ rw (eq-eqb parts 0 z) refl
 
-  pub there-part : (parts ≡ 0 → ⊥) → ltb 0 n ≡ isThere ns n b parts base
-  unfolding isThere
-  there-part z = rw (ne_eqb parts 0 z) refl
+  pub there_part : (parts ≡ 0 → ⊥) → ltb 0 n ≡ is_there ns n b parts base
+  unfolding is_there
+  there_part z = rw (ne_eqb parts 0 z) refl
 
-  module _ (t : List ℕ) {c : Bool} (ec : c ≡ isThere ns n b parts base) where
-    pub line-there : c ≡ true → {slot : ℕ} → slot ≡ base + first_at b → {l m : List ℕ} {at next : ℕ} → Types (keyed (keysFrom [] t) ns slot) l at m next → Types (lineKeyed t ns n b parts base) l at m next
-    unfolding lineKeyed
-    line-there e es a = types-as (ap (keyed (keysFrom [] t) ns) es ∙ rw (sym ec ∙ e) refl) a
+  module _ (t : List ℕ) {c : Bool} (ec : c ≡ is_there ns n b parts base) where
+    pub line_there : c ≡ true → {slot : ℕ} → slot ≡ base + first_at b → {l m : List ℕ} {at next : ℕ} → Types (keyed (keys_from [] t) ns slot) l at m next → Types (line_keyed t ns n b parts base) l at m next
+    unfolding line_keyed
+    line_there e es a = types_as (ap (keyed (keys_from [] t) ns) es ∙ rw (sym ec ∙ e) refl) a
 
-    pub line-absent : c ≡ false → (l : List ℕ) (at : ℕ) → Types (lineKeyed t ns n b parts base) l at l at
-    unfolding lineKeyed
-    line-absent e l at = types-as (rw (sym ec ∙ e) refl) (types-none l at)
+    pub line_absent : c ≡ false → (l : List ℕ) (at : ℕ) → Types (line_keyed t ns n b parts base) l at l at
+    unfolding line_keyed
+    line_absent e l at = types_as (rw (sym ec ∙ e) refl) (types_none l at)
 
 -- ---- the ways out of `lines` and `item`
 
 module _ (t : List ℕ) (ns : List ℤ) (n b parts left base : ℕ) where
-  pub lines_end : left ≡ 0 → (l : List ℕ) (at : ℕ) → Types (linesKeyed t ns n b parts left base) l at l at
-  unfolding linesKeyed
-  lines_end e l at = rw e (types-none l at)
+  pub lines_end : left ≡ 0 → (l : List ℕ) (at : ℕ) → Types (lines_keyed t ns n b parts left base) l at l at
+  unfolding lines_keyed
+  lines_end e l at = rw e (types_none l at)
 
   -- the first line has the octets before end, the others those behind it
-  pub lines-on : (left ≡ 0 → ⊥) → {end : ℕ} → end ≡ span t → {l m : List ℕ} {at next : ℕ} → Types (lineKeyed (take end t) ns n b parts base) l at m next
-      → {j p : ℕ} → j ≡ n - 1 → p ≡ parts - 1 → {q : List ℕ} {last : ℕ} → Types (linesKeyed (take (length t - end) (drop end t)) ns j (b + 1) p (left - 1) base) m next q last
-      → Types (linesKeyed t ns n b parts left base) l at q last
-  unfolding linesKeyed
-  lines-on some {end} ee {l} {m} {at} {next} a {j} {p} ej ep {q} {last} r = go left some (types-as same r)
+  pub lines_on : (left ≡ 0 → ⊥) → {end : ℕ} → end ≡ span t → {l m : List ℕ} {at next : ℕ} → Types (line_keyed (take end t) ns n b parts base) l at m next
+      → {j p : ℕ} → j ≡ n - 1 → p ≡ parts - 1 → {q : List ℕ} {last : ℕ} → Types (lines_keyed (take (length t - end) (drop end t)) ns j (b + 1) p (left - 1) base) m next q last
+      → Types (lines_keyed t ns n b parts left base) l at q last
+  unfolding lines_keyed
+  lines_on some {end} ee {l} {m} {at} {next} a {j} {p} ej ep {q} {last} r = go left some (types_as same r)
     where
-      same : linesKeyed (take (length t - end) (drop end t)) ns j (b + 1) p (left - 1) base ≡ linesKeyed (drop (span t) t) ns (n - 1) (b + 1) (parts - 1) (left - 1) base
+      same : lines_keyed (take (length t - end) (drop end t)) ns j (b + 1) p (left - 1) base ≡ lines_keyed (drop (span t) t) ns (n - 1) (b + 1) (parts - 1) (left - 1) base
       same =
-          ap₂ (λ x y. linesKeyed (take (length t - end) (drop end t)) ns x (b + 1) y (left - 1) base) ej ep
-          ∙ ap (λ x. linesKeyed x ns (n - 1) (b + 1) (parts - 1) (left - 1) base) (take_all (length t - end) (drop end t) (omega (arith, length-drop end t)) ∙ ap (λ i. drop i t) ee)
+          ap₂ (λ x y. lines_keyed (take (length t - end) (drop end t)) ns x (b + 1) y (left - 1) base) ej ep
+          ∙ ap (λ x. lines_keyed x ns (n - 1) (b + 1) (parts - 1) (left - 1) base) (take_all (length t - end) (drop end t) (omega (arith, length-drop end t)) ∙ ap (λ i. drop i t) ee)
 
-      go : (left : ℕ) → (left ≡ 0 → ⊥) → Types (linesKeyed (drop (span t) t) ns (n - 1) (b + 1) (parts - 1) (left - 1) base) m next q last → Types (linesKeyed t ns n b parts left base) l at q last
+      go : (left : ℕ) → (left ≡ 0 → ⊥) → Types (lines_keyed (drop (span t) t) ns (n - 1) (b + 1) (parts - 1) (left - 1) base) m next q last → Types (lines_keyed t ns n b parts left base) l at q last
       go zero z r = absurd (z refl)
       go (suc i) z r =
           let e : suc i - 1 ≡ i = omega arith in
-          types-behind (types-as (ap (λ x. lineKeyed (take x t) ns n b parts base) ee) a) (types-as (ap (λ x. linesKeyed (drop (span t) t) ns (n - 1) (b + 1) (parts - 1) x base) e) r)
+          types_behind (types_as (ap (λ x. line_keyed (take x t) ns n b parts base) ee) a) (types_as (ap (λ x. lines_keyed (drop (span t) t) ns (n - 1) (b + 1) (parts - 1) x base) e) r)
 
 module _ (t : List ℕ) (ns : List ℤ) (n k base : ℕ) {s : Shape} (es : s ≡ shape_at k) {l m : List ℕ} {at next : ℕ} where
-  pub item-single : s.1 ≡ 0 → Types (linesKeyed t ns 1 s.0 1 1 base) l at m next → Types (itemKeyed t ns n k base) l at m next
-  unfolding itemKeyed
-  item-single z a = types-as (ap (λ (x : Shape). linesKeyed t ns 1 x.0 1 1 base) es ∙ rw (eq-eqb (shape_at k).1 0 (ap (λ (x : Shape). x.1) (sym es) ∙ z)) refl) a
+  pub item_single : s.1 ≡ 0 → Types (lines_keyed t ns 1 s.0 1 1 base) l at m next → Types (item_keyed t ns n k base) l at m next
+  unfolding item_keyed
+  item_single z a = types_as (ap (λ (x : Shape). lines_keyed t ns 1 x.0 1 1 base) es ∙ rw (eq-eqb (shape_at k).1 0 (ap (λ (x : Shape). x.1) (sym es) ∙ z)) refl) a
 
-  pub item-chained : (s.1 ≡ 0 → ⊥) → Types (linesKeyed t ns n s.0 s.1 (s.1 + s.2) base) l at m next → Types (itemKeyed t ns n k base) l at m next
-  unfolding itemKeyed
-  item-chained z a =
-      types-as (ap (λ (x : Shape). linesKeyed t ns n x.0 x.1 (x.1 + x.2) base) es ∙ rw (ne_eqb (shape_at k).1 0 (λ e. z (ap (λ (x : Shape). x.1) es ∙ e))) refl) a
+  pub item_chained : (s.1 ≡ 0 → ⊥) → Types (lines_keyed t ns n s.0 s.1 (s.1 + s.2) base) l at m next → Types (item_keyed t ns n k base) l at m next
+  unfolding item_keyed
+  item_chained z a =
+      types_as (ap (λ (x : Shape). lines_keyed t ns n x.0 x.1 (x.1 + x.2) base) es ∙ rw (ne_eqb (shape_at k).1 0 (λ e. z (ap (λ (x : Shape). x.1) es ∙ e))) refl) a

@@ -5,79 +5,79 @@ use Rattle.std.proofs.Common.{ap₂, ◌∙◌, append-nil, arith}
 use borrow.Author.Tests.{ne_eqb, lt-ltb, le-ltb}
 use Rattle.codec.specs.Pick.{pick}
 use Rattle.papers.specs.Names.{text, Key, hidden, shown, angle, pressure}
-use Rattle.layout.specs.Record.{numberAt}
-use Rattle.scope.specs.Sheet.{keyLine, signedDecimal, pressureText, numberText}
+use Rattle.layout.specs.Record.{number_at}
+use Rattle.scope.specs.Sheet.{key_line, signed_decimal, pressure_text, number_text}
 use Rattle.text.specs.Typing.{Types}
-use Rattle.text.specs.Laws.Typing.{types-as, types-behind, types-none}
-use Rattle.sheet.specs.Keys.{markIs, meant, slotsIn, keyed}
+use Rattle.text.specs.Laws.Typing.{types_as, types_behind, types_none}
+use Rattle.sheet.specs.Keys.{mark_is, meant, slots_in, keyed}
 
 -- ---- keys
 
-pub alone-key : (name : List ℕ) (z : ℤ) {l m : List ℕ} {at next : ℕ} → Types (keyLine (name ++ []) (signedDecimal z)) l at m next → Types (numberText (shown name) z) l at m next
-unfolding numberText
-alone-key name z a = types-as (ap (λ k. keyLine k (signedDecimal z)) (append-nil name)) a
+pub alone_key : (name : List ℕ) (z : ℤ) {l m : List ℕ} {at next : ℕ} → Types (key_line (name ++ []) (signed_decimal z)) l at m next → Types (number_text (shown name) z) l at m next
+unfolding number_text
+alone_key name z a = types_as (ap (λ k. key_line k (signed_decimal z)) (append-nil name)) a
 
-pub altitude-key : (name more : List ℕ) (z : ℤ) {y : ℤ} → y ≡ z → {l m : List ℕ} {at next : ℕ} → Types (keyLine (name ++ more) (signedDecimal y)) l at m next → Types (numberText (shown (name ++ more)) z) l at m next
-unfolding numberText
-altitude-key name more z e a = types-as (ap (λ x. keyLine (name ++ more) (signedDecimal x)) e) a
+pub altitude_key : (name more : List ℕ) (z : ℤ) {y : ℤ} → y ≡ z → {l m : List ℕ} {at next : ℕ} → Types (key_line (name ++ more) (signed_decimal y)) l at m next → Types (number_text (shown (name ++ more)) z) l at m next
+unfolding number_text
+altitude_key name more z e a = types_as (ap (λ x. key_line (name ++ more) (signed_decimal x)) e) a
 
-pub pressure-keys : (name : List ℕ) (z : ℤ) {l m q : List ℕ} {at next last : ℕ}
-    → Types (numberText (shown name) z) l at m next → Types (pressureText name z) m next q last → Types (numberText (pressure name) z) l at q last
-unfolding numberText
-pressure-keys name z a b = types-behind a b
+pub pressure_keys : (name : List ℕ) (z : ℤ) {l m q : List ℕ} {at next last : ℕ}
+    → Types (number_text (shown name) z) l at m next → Types (pressure_text name z) m next q last → Types (number_text (pressure name) z) l at q last
+unfolding number_text
+pressure_keys name z a b = types_behind a b
 
 -- ---- the marks
 
 module _ (m : ℕ) (w : List ℕ) where
-  pub meant-position : m ≡ 64 → meant m w ≡ angle (w ++ text ".LAT") ∷ angle (w ++ text ".LON") ∷ []
+  pub meant_position : m ≡ 64 → meant m w ≡ angle (w ++ text ".LAT") ∷ angle (w ++ text ".LON") ∷ []
   unfolding meant
-  meant-position e = rw e refl
+  meant_position e = rw e refl
 
-  pub meant-altitude : m ≡ 62 → meant m w ≡ shown (w ++ text ".RES") ∷ shown (w ++ text ".GA") ∷ []
+  pub meant_altitude : m ≡ 62 → meant m w ≡ shown (w ++ text ".RES") ∷ shown (w ++ text ".GA") ∷ []
   unfolding meant
-  meant-altitude e = rw e refl
+  meant_altitude e = rw e refl
 
-  pub meant-offset : m ≡ 60 → meant m w ≡ shown w ∷ []
+  pub meant_offset : m ≡ 60 → meant m w ≡ shown w ∷ []
   unfolding meant
-  meant-offset e = rw e refl
+  meant_offset e = rw e refl
 
-  pub meant-pressure : m ≡ 63 → meant m w ≡ pressure w ∷ []
+  pub meant_pressure : m ≡ 63 → meant m w ≡ pressure w ∷ []
   unfolding meant
-  meant-pressure e = rw e refl
+  meant_pressure e = rw e refl
 
-  pub meant-hidden : m ≡ 58 → meant m w ≡ hidden ∷ []
+  pub meant_hidden : m ≡ 58 → meant m w ≡ hidden ∷ []
   unfolding meant
-  meant-hidden e = rw e refl
+  meant_hidden e = rw e refl
 
-  pub meant-one : (m ≡ 64 → ⊥) → (m ≡ 62 → ⊥) → (m ≡ 63 → ⊥) → (m ≡ 58 → ⊥) → meant m w ≡ shown w ∷ []
+  pub meant_one : (m ≡ 64 → ⊥) → (m ≡ 62 → ⊥) → (m ≡ 63 → ⊥) → (m ≡ 58 → ⊥) → meant m w ≡ shown w ∷ []
   unfolding meant
-  meant-one p a q h = rw (ne_eqb m 64 p, ne_eqb m 62 a, ne_eqb m 63 q, ne_eqb m 58 h) refl
+  meant_one p a q h = rw (ne_eqb m 64 p, ne_eqb m 62 a, ne_eqb m 63 q, ne_eqb m 58 h) refl
 
 -- ---- how many numbers
 
-pub slots-two : (m : ℕ) → m ≡ 64 → 2 ≡ slotsIn m
-unfolding slotsIn
-slots-two m e = rw e
+pub slots_two : (m : ℕ) → m ≡ 64 → 2 ≡ slots_in m
+unfolding slots_in
+slots_two m e = rw e
 
-pub slots-pair : (m : ℕ) → m ≡ 62 → 2 ≡ slotsIn m
-unfolding slotsIn
-slots-pair m e = rw e
+pub slots_pair : (m : ℕ) → m ≡ 62 → 2 ≡ slots_in m
+unfolding slots_in
+slots_pair m e = rw e
 
-pub slots-one : (m : ℕ) → (m ≡ 64 → ⊥) → (m ≡ 62 → ⊥) → 1 ≡ slotsIn m
-unfolding slotsIn
-slots-one m p a = rw (ne_eqb m 64 p, ne_eqb m 62 a) refl
+pub slots_one : (m : ℕ) → (m ≡ 64 → ⊥) → (m ≡ 62 → ⊥) → 1 ≡ slots_in m
+unfolding slots_in
+slots_one m p a = rw (ne_eqb m 64 p, ne_eqb m 62 a) refl
 
-pub slots-few : (m : ℕ) → slotsIn m ≤ 2
-unfolding slotsIn
-slots-few m = go (eqb m 64) (eqb m 62)
+pub slots_few : (m : ℕ) → slots_in m ≤ 2
+unfolding slots_in
+slots_few m = go (eqb m 64) (eqb m 62)
   where
     go : (p a : Bool) → pick p 2 (pick a 2 1) ≤ 2
     go true a = omega arith
     go false true = omega arith
     go false false = omega arith
 
-pub meant-slots : (m : ℕ) (w : List ℕ) → slotsIn m ≡ length (meant m w)
-unfolding meant slotsIn
+pub meant-slots : (m : ℕ) (w : List ℕ) → slots_in m ≡ length (meant m w)
+unfolding meant slots_in
 meant-slots m w = go (eqb m 64) (eqb m 62) (eqb m 63) (eqb m 58)
   where
     go : (p a q h : Bool) → pick p 2 (pick a 2 1)
@@ -91,23 +91,23 @@ meant-slots m w = go (eqb m 64) (eqb m 62) (eqb m 63) (eqb m 58)
 -- ---- the text of one number, and of two
 
 module _ (ns : List ℤ) (slot : ℕ) {ks : List Key} where
-  pub keyed-one : {k : Key} → ks ≡ k ∷ [] → {l m : List ℕ} {at next : ℕ} {z : ℤ} → z ≡ numberAt ns slot → Types (numberText k z) l at m next → Types (keyed ks ns slot) l at m next
+  pub keyed_one : {k : Key} → ks ≡ k ∷ [] → {l m : List ℕ} {at next : ℕ} {z : ℤ} → z ≡ number_at ns slot → Types (number_text k z) l at m next → Types (keyed ks ns slot) l at m next
   unfolding keyed
-  keyed-one {k} e {z = z} ez a = types-as (ap (numberText k) ez ∙ sym (append-nil (numberText k (numberAt ns slot))) ∙ ap (λ x. keyed x ns slot) (sym e)) a
+  keyed_one {k} e {z = z} ez a = types_as (ap (number_text k) ez ∙ sym (append-nil (number_text k (number_at ns slot))) ∙ ap (λ x. keyed x ns slot) (sym e)) a
 
-  pub keyed-hidden : ks ≡ hidden ∷ [] → (l : List ℕ) (at : ℕ) → Types (keyed ks ns slot) l at l at
-  unfolding keyed numberText
-  keyed-hidden e l at = types-as (ap (λ x. keyed x ns slot) (sym e)) (types-none l at)
+  pub keyed_hidden : ks ≡ hidden ∷ [] → (l : List ℕ) (at : ℕ) → Types (keyed ks ns slot) l at l at
+  unfolding keyed number_text
+  keyed_hidden e l at = types_as (ap (λ x. keyed x ns slot) (sym e)) (types_none l at)
 
-  pub keyed-two : {j k : Key} → ks ≡ j ∷ k ∷ [] → {l m : List ℕ} {at next : ℕ} {y z : ℤ} → y ≡ numberAt ns slot → z ≡ numberAt ns (slot + 1) → Types (numberText j y ++ numberText k z) l at m next → Types (keyed ks ns slot) l at m next
+  pub keyed_two : {j k : Key} → ks ≡ j ∷ k ∷ [] → {l m : List ℕ} {at next : ℕ} {y z : ℤ} → y ≡ number_at ns slot → z ≡ number_at ns (slot + 1) → Types (number_text j y ++ number_text k z) l at m next → Types (keyed ks ns slot) l at m next
   unfolding keyed
-  keyed-two {j} {k} e {y = y} {z = z} ey ez a =
-      types-as (ap₂ (λ a b. numberText j a ++ numberText k b) ey ez ∙ ap (numberText j (numberAt ns slot) ++◌) (sym (append-nil (numberText k (numberAt ns (slot + 1))))) ∙ ap (λ x. keyed x ns slot) (sym e)) a
+  keyed_two {j} {k} e {y = y} {z = z} ey ez a =
+      types_as (ap₂ (λ a b. number_text j a ++ number_text k b) ey ez ∙ ap (number_text j (number_at ns slot) ++◌) (sym (append-nil (number_text k (number_at ns (slot + 1))))) ∙ ap (λ x. keyed x ns slot) (sym e)) a
 
-pub mark-above : (m : ℕ) → 57 < m → ltb m 65 ≡ markIs m
-unfolding markIs
-mark-above m h = rw (lt-ltb 57 m h) refl
+pub mark_above : (m : ℕ) → 57 < m → ltb m 65 ≡ mark_is m
+unfolding mark_is
+mark_above m h = rw (lt-ltb 57 m h) refl
 
-pub mark-below : (m : ℕ) → m ≤ 57 → false ≡ markIs m
-unfolding markIs
-mark-below m h = rw (le-ltb 57 m h) refl
+pub mark_below : (m : ℕ) → m ≤ 57 → false ≡ mark_is m
+unfolding mark_is
+mark_below m h = rw (le-ltb 57 m h) refl

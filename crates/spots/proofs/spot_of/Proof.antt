@@ -9,13 +9,13 @@ returns : tie.Need-returns
 unfolding spot_of
 returns c = rw c.match.keys1 refl
 
-returns-2 : tie.Need-returns-2
+returns_2 : tie.Need-returns-2
 unfolding spot_of
-returns-2 c = rw c.match.keys2 refl
+returns_2 c = rw c.match.keys2 refl
 
-returns-3 : tie.Need-returns-3
+returns_3 : tie.Need-returns-3
 unfolding spot_of
-returns-3 c = rw (ne_eqb _ _ c.match.rest.0.1, ne_eqb _ _ c.match.rest.1) refl
+returns_3 c = rw (ne_eqb _ _ c.match.rest.0.1, ne_eqb _ _ c.match.rest.1) refl
 
-pub spot-of-spec : {M : Type 1} → statement M
-spot-of-spec = tie.close (tie.spec returns returns-2 returns-3)
+pub spot_of_spec : {M : Type 1} → statement M
+spot_of_spec = tie.close (tie.spec returns returns_2 returns_3)

@@ -8,25 +8,25 @@ use native.Mathlib.Omega.{arith}
 use Rattle.std.proofs.Math.Dec.{T, eqb→eq}
 use Rattle.std.proofs.Math.ListN.{drop}
 use Rattle.codec.specs.Item.{slots}
-use Rattle.codec.specs.Field.{firstFlag, nextFlags}
-use Rattle.codec.specs.Laws.Tests.{and_l, and_r}
+use Rattle.codec.specs.Field.{first_flag, next_flags}
+use Rattle.codec.proofs.Laws.Tests.{and_l, and_r}
 use Rattle.layout.specs.Record.{regroup}
-use Rattle.spots.specs.Spots.{spotAt, itemOn, spotOk, row_ok, itemsFrom, numbersOn, heldFrom}
+use Rattle.spots.specs.Spots.{spot_at, item_on, spot_ok, row_ok, items_from, numbers_on, held_from}
 
 -- ---- the flag of an index, and those behind it
 
-pub first-drop : (i : ℕ) (xs : List ℕ) → firstFlag (drop i xs) ≡ get_or xs i 0
-unfolding firstFlag
-first-drop zero [] = refl
-first-drop zero (x ∷ xs) = refl
-first-drop (suc i) [] = refl
-first-drop (suc i) (x ∷ xs) = first-drop i xs
+pub first_drop : (i : ℕ) (xs : List ℕ) → first_flag (drop i xs) ≡ get_or xs i 0
+unfolding first_flag
+first_drop zero [] = refl
+first_drop zero (x ∷ xs) = refl
+first_drop (suc i) [] = refl
+first_drop (suc i) (x ∷ xs) = first_drop i xs
 
-pub next-drop : (i : ℕ) (xs : List ℕ) → nextFlags (drop i xs) ≡ drop (i + 1) xs
-unfolding nextFlags
-next-drop i xs = go i xs ∙ ap (λ j. drop j xs) (sym (add-one i))
+pub next_drop : (i : ℕ) (xs : List ℕ) → next_flags (drop i xs) ≡ drop (i + 1) xs
+unfolding next_flags
+next_drop i xs = go i xs ∙ ap (λ j. drop j xs) (sym (add-one i))
   where
-    go : (i : ℕ) (xs : List ℕ) → nextFlags (drop i xs) ≡ drop (suc i) xs
+    go : (i : ℕ) (xs : List ℕ) → next_flags (drop i xs) ≡ drop (suc i) xs
     go zero [] = refl
     go zero (x ∷ xs) = refl
     go (suc i) [] = refl
@@ -35,51 +35,51 @@ next-drop i xs = go i xs ∙ ap (λ j. drop j xs) (sym (add-one i))
 -- ---- spots in turn
 
 module _ (k left : ℕ) (some : left ≡ 0 → ⊥) where
-  pub items-on : itemsFrom k left ≡ itemOn k ∷ itemsFrom (k + 1) (left - 1)
-  unfolding itemsFrom
-  items-on = go left some
+  pub items_on : items_from k left ≡ item_on k ∷ items_from (k + 1) (left - 1)
+  unfolding items_from
+  items_on = go left some
     where
-      go : (left : ℕ) → (left ≡ 0 → ⊥) → itemsFrom k left ≡ itemOn k ∷ itemsFrom (k + 1) (left - 1)
+      go : (left : ℕ) → (left ≡ 0 → ⊥) → items_from k left ≡ item_on k ∷ items_from (k + 1) (left - 1)
       go zero z = absurd (z refl)
-      go (suc n) z = let e : n ≡ suc n - 1 = omega arith in ap (λ j. itemOn k ∷ itemsFrom (k + 1) j) e
+      go (suc n) z = let e : n ≡ suc n - 1 = omega arith in ap (λ j. item_on k ∷ items_from (k + 1) j) e
 
   module _ (ok : T (row_ok k left)) where
     -- the first spot is good, and so are the rest
-    pub row_first : T (spotOk k) × T (row_ok (k + 1) (left - 1))
+    pub row_first : T (spot_ok k) × T (row_ok (k + 1) (left - 1))
     unfolding row_ok
     row_first = go left some ok
       where
-        go : (left : ℕ) → (left ≡ 0 → ⊥) → T (row_ok k left) → T (spotOk k) × T (row_ok (k + 1) (left - 1))
+        go : (left : ℕ) → (left ≡ 0 → ⊥) → T (row_ok k left) → T (spot_ok k) × T (row_ok (k + 1) (left - 1))
         go zero z t = absurd (z refl)
         go (suc zero) z t = (t, tt)
         go (suc (suc n)) z t =
             let e : suc (suc n) - 1 ≡ suc n = omega arith in
-            (and_l (spotOk k) _ t, rw e (and_r (eqb (spotAt (k + 1)).1 ((spotAt k).1 + slots (itemOn k))) _ (and_r (spotOk k) _ t)))
+            (and_l (spot_ok k) _ t, rw e (and_r (eqb (spot_at (k + 1)).1 ((spot_at k).1 + slots (item_on k))) _ (and_r (spot_ok k) _ t)))
 
     -- where there is a second, its slots begin behind those of the first
-    pub row_next : (left - 1 ≡ 0 → ⊥) → (spotAt (k + 1)).1 ≡ (spotAt k).1 + slots (itemOn k)
+    pub row_next : (left - 1 ≡ 0 → ⊥) → (spot_at (k + 1)).1 ≡ (spot_at k).1 + slots (item_on k)
     unfolding row_ok
     row_next more = go left more ok
       where
-        go : (left : ℕ) → (left - 1 ≡ 0 → ⊥) → T (row_ok k left) → (spotAt (k + 1)).1 ≡ (spotAt k).1 + slots (itemOn k)
+        go : (left : ℕ) → (left - 1 ≡ 0 → ⊥) → T (row_ok k left) → (spot_at (k + 1)).1 ≡ (spot_at k).1 + slots (item_on k)
         go zero m t = absurd (m refl)
         go (suc zero) m t = absurd (m refl)
-        go (suc (suc n)) m t = eqb→eq (spotAt (k + 1)).1 ((spotAt k).1 + slots (itemOn k)) (and_l (eqb (spotAt (k + 1)).1 ((spotAt k).1 + slots (itemOn k))) _ (and_r (spotOk k) _ t))
+        go (suc (suc n)) m t = eqb→eq (spot_at (k + 1)).1 ((spot_at k).1 + slots (item_on k)) (and_l (eqb (spot_at (k + 1)).1 ((spot_at k).1 + slots (item_on k))) _ (and_r (spot_ok k) _ t))
 
     -- the first holds its parts and numbers, and the rest what stands behind
-    pub held_on : (i : ℕ) (ps : List ℕ) (ns : List ℤ) → heldFrom k left i ps ns ≡ (get_or ps i 0, numbersOn k ns) ∷ heldFrom (k + 1) (left - 1) (i + 1) ps ns
-    unfolding row_ok itemsFrom heldFrom numbersOn regroup
+    pub held_on : (i : ℕ) (ps : List ℕ) (ns : List ℤ) → held_from k left i ps ns ≡ (get_or ps i 0, numbers_on k ns) ∷ held_from (k + 1) (left - 1) (i + 1) ps ns
+    unfolding row_ok items_from held_from numbers_on regroup
     held_on i ps ns = go left some ok
       where
-        step : (left : ℕ) (qs : List ℕ) {slot : ℕ} → slot ≡ (spotAt k).1 + slots (itemOn k) → regroup (itemsFrom (k + 1) left) qs (drop (slots (itemOn k)) (drop (spotAt k).1 ns)) ≡ regroup (itemsFrom (k + 1) left) qs (drop slot ns)
-        step left qs e = ap (regroup (itemsFrom (k + 1) left) qs) (drop-drop (slots (itemOn k)) (spotAt k).1 ns ∙ ap (λ j. drop j ns) (sym e))
+        step : (left : ℕ) (qs : List ℕ) {slot : ℕ} → slot ≡ (spot_at k).1 + slots (item_on k) → regroup (items_from (k + 1) left) qs (drop (slots (item_on k)) (drop (spot_at k).1 ns)) ≡ regroup (items_from (k + 1) left) qs (drop slot ns)
+        step left qs e = ap (regroup (items_from (k + 1) left) qs) (drop-drop (slots (item_on k)) (spot_at k).1 ns ∙ ap (λ j. drop j ns) (sym e))
 
-        go : (left : ℕ) → (left ≡ 0 → ⊥) → T (row_ok k left) → heldFrom k left i ps ns ≡ (get_or ps i 0, numbersOn k ns) ∷ heldFrom (k + 1) (left - 1) (i + 1) ps ns
+        go : (left : ℕ) → (left ≡ 0 → ⊥) → T (row_ok k left) → held_from k left i ps ns ≡ (get_or ps i 0, numbers_on k ns) ∷ held_from (k + 1) (left - 1) (i + 1) ps ns
         go zero z t = absurd (z refl)
-        go (suc zero) z t = ap (λ x. (x, take (slots (itemOn k)) (drop (spotAt k).1 ns)) ∷ []) (first-drop i ps)
+        go (suc zero) z t = ap (λ x. (x, take (slots (item_on k)) (drop (spot_at k).1 ns)) ∷ []) (first_drop i ps)
         go (suc (suc n)) z t =
-            let e : (spotAt (k + 1)).1 ≡ (spotAt k).1 + slots (itemOn k)
-            = eqb→eq (spotAt (k + 1)).1 ((spotAt k).1 + slots (itemOn k)) (and_l (eqb (spotAt (k + 1)).1 ((spotAt k).1 + slots (itemOn k))) _ (and_r (spotOk k) _ t)) in
+            let e : (spot_at (k + 1)).1 ≡ (spot_at k).1 + slots (item_on k)
+            = eqb→eq (spot_at (k + 1)).1 ((spot_at k).1 + slots (item_on k)) (and_l (eqb (spot_at (k + 1)).1 ((spot_at k).1 + slots (item_on k))) _ (and_r (spot_ok k) _ t)) in
             let w : suc n ≡ suc (suc n) - 1 = omega arith in
-            ap₂ (λ x y. (x, take (slots (itemOn k)) (drop (spotAt k).1 ns)) ∷ y) (first-drop i ps)
-            (step (suc n) (nextFlags (drop i ps)) e ∙ ap₂ (λ x y. regroup (itemsFrom (k + 1) x) y (drop (spotAt (k + 1)).1 ns)) w (next-drop i ps))
+            ap₂ (λ x y. (x, take (slots (item_on k)) (drop (spot_at k).1 ns)) ∷ y) (first_drop i ps)
+            (step (suc n) (next_flags (drop i ps)) e ∙ ap₂ (λ x y. regroup (items_from (k + 1) x) y (drop (spot_at (k + 1)).1 ns)) w (next_drop i ps))

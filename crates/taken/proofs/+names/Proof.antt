@@ -12,8 +12,8 @@ use Rattle.papers.specs.Names.{text, names048, names021, names007}
 use Rattle.spots.specs.declared.Spot.{Spot}
 use Rattle.sheet.specs.Items.{named, named_at}
 use Rattle.walk.specs.Lines.{words_in}
-use Rattle.taken.specs.Laws.Tables.{name_of, name-word}
-use Rattle.taken.specs.Laws.Names.{names-none, names-there, names-absent, comma-other, name-other}
+use Rattle.taken.specs.Laws.Tables.{name_of, name_word}
+use Rattle.taken.specs.Laws.Names.{names_none, names_there, names_absent, comma_other, name_other}
 use borrow.Fn.Kinds.{In}
 use borrow.Fn.PlainCycle.{Measures, is, falls, and}
 use Rattle.taken.proofs.names.Reads as names
@@ -30,14 +30,14 @@ use Rattle.walk.proofs.word.Reads as word-reads
 use Rattle.taken.proofs.+names.{statement}
 use Rattle.taken.proofs.+names.Tie.{close}
 
-abbrev μ-names : Measures 1 names-kinds.ps ℕ
-μ-names κs a = a.1.1.1.1.0
+abbrev μ_names : Measures 1 names-kinds.ps ℕ
+μ_names κs a = a.1.1.1.1.0
 
 abbrev names_at : ℕ → In 1 names-kinds.ps
-names_at t = and 1 names-kinds.ps (is 1 names-kinds.ps μ-names t) names.Pre
+names_at t = and 1 names-kinds.ps (is 1 names-kinds.ps μ_names t) names.Pre
 
-abbrev names-below : ℕ → In 1 names-kinds.ps
-names-below t = and 1 names-kinds.ps (falls 1 names-kinds.ps ◌<◌ μ-names t) names.Pre
+abbrev names_below : ℕ → In 1 names-kinds.ps
+names_below t = and 1 names-kinds.ps (falls 1 names-kinds.ps ◌<◌ μ_names t) names.Pre
 
 -- what is known of the functions that it calls
 abbrev calls : ℕ → names-lts.Claims
@@ -56,77 +56,77 @@ calls t = (
   past-reads.Learnt,
   with-item-reads.Asked,
   with-item-reads.Learnt,
-  names-below t,
+  names_below t,
   names.Post,
   without-item-reads.Asked,
   without-item-reads.Learnt,
 )
 
-octet-lt : {x : ℕ} → Fits w8 x → x < 256
-octet-lt f = f.fits
+octet_lt : {x : ℕ} → Fits w8 x → x < 256
+octet_lt f = f.fits
 
-names-are : words_in (text "MD5 M5N M4E RPC ERR BPS SelH NAV GAO SGV STA TNH MES TA") ≡ map name_of named
+names_are : words_in (text "MD5 M5N M4E RPC ERR BPS SelH NAV GAO SGV STA TNH MES TA") ≡ map name_of named
 unfolding words_in named names048 names021 names007
-names-are = refl
+names_are = refl
 
 -- what the rest asks, whether the name stood there or not
-rest-asked : (t : ℕ) (e : names-lts.Else1 (calls t) (names_at t) names.Post)
+rest_asked : (t : ℕ) (e : names-lts.Else1 (calls t) (names_at t) names.Post)
     → (let a = e.before.before.args in (a.left - 1 < t) × ((a.k + 1 + (a.left - 1) ≤ 200) × (a.i + 1 + (a.left - 1) ≤ 8)))
-rest-asked t e =
+rest_asked t e =
     let s = e.before.before in
     let g = s.requires.1 in
     (omega (arith, s.requires.0, e.if1.false), (omega (arith, g, e.if1.false), omega (arith, g, e.if1.false)))
 
-names-returns : (t : ℕ) → names-lts.Need-returns (calls t) (names_at t) names.Post
-names-returns t c =
+names_returns : (t : ℕ) → names-lts.Need-returns (calls t) (names_at t) names.Post
+names_returns t c =
     let s = c.before.before in
     let a = s.args in
-    names-none a.items a.i a.comma a.k a.left a.w.now (octet-lt s.ranges.items) c.if1.true
+    names_none a.items a.i a.comma a.k a.left a.w.now (octet_lt s.ranges.items) c.if1.true
 
-names-slice-aggregate-front : (t : ℕ) → names-lts.Need-slice-aggregate-front (calls t) (names_at t) names.Post
-names-slice-aggregate-front t c = search rules
+names_slice_aggregate_front : (t : ℕ) → names-lts.Need-slice-aggregate-front (calls t) (names_at t) names.Post
+names_slice_aggregate_front t c = search rules
 
-names-front-requires : (t : ℕ) → names-lts.Need-front-requires (calls t) (names_at t) names.Post
-names-front-requires t c κs = tt
+names_front_requires : (t : ℕ) → names-lts.Need-front-requires (calls t) (names_at t) names.Post
+names_front_requires t c κs = tt
 
-names-opens-requires : (t : ℕ) → names-lts.Need-opens-requires (calls t) (names_at t) names.Post
-names-opens-requires t c κs = tt
+names_opens_requires : (t : ℕ) → names-lts.Need-opens-requires (calls t) (names_at t) names.Post
+names_opens_requires t c κs = tt
 
-names-spot-at-requires : (t : ℕ) → names-lts.Need-spot-at-requires (calls t) (names_at t) names.Post
-names-spot-at-requires t c κs = tt
+names_spot_at_requires : (t : ℕ) → names-lts.Need-spot-at-requires (calls t) (names_at t) names.Post
+names_spot_at_requires t c κs = tt
 
-names-wide-requires : (t : ℕ) → names-lts.Need-wide-requires (calls t) (names_at t) names.Post
-names-wide-requires t c κs = tt
+names_wide_requires : (t : ℕ) → names-lts.Need-wide-requires (calls t) (names_at t) names.Post
+names_wide_requires t c κs = tt
 
-names-word-requires : (t : ℕ) → names-lts.Need-word-requires (calls t) (names_at t) names.Post
-names-word-requires t c κs = tt
+names_word_requires : (t : ℕ) → names-lts.Need-word-requires (calls t) (names_at t) names.Post
+names_word_requires t c κs = tt
 
-names-past-requires : (t : ℕ) → names-lts.Need-past-requires (calls t) (names_at t) names.Post
-names-past-requires t c κs = tt
+names_past_requires : (t : ℕ) → names-lts.Need-past-requires (calls t) (names_at t) names.Post
+names_past_requires t c κs = tt
 
-names-opens-requires-2 : (t : ℕ) → names-lts.Need-opens-requires-2 (calls t) (names_at t) names.Post
-names-opens-requires-2 t c κs = tt
+names_opens_requires_2 : (t : ℕ) → names-lts.Need-opens-requires-2 (calls t) (names_at t) names.Post
+names_opens_requires_2 t c κs = tt
 
-names-with-item-requires : (t : ℕ) → names-lts.Need-with-item-requires (calls t) (names_at t) names.Post
-names-with-item-requires t c κs = tt
+names_with_item_requires : (t : ℕ) → names-lts.Need-with-item-requires (calls t) (names_at t) names.Post
+names_with_item_requires t c κs = tt
 
-names-past-requires-2 : (t : ℕ) → names-lts.Need-past-requires-2 (calls t) (names_at t) names.Post
-names-past-requires-2 t c κs = tt
+names_past_requires_2 : (t : ℕ) → names-lts.Need-past-requires-2 (calls t) (names_at t) names.Post
+names_past_requires_2 t c κs = tt
 
-names-add-names : (t : ℕ) → names-lts.Need-overflow-add-names (calls t) (names_at t) names.Post
-names-add-names t c = let g = c.before.before.before.before.before.before.before.before.before.before.before.before.before.before.before.before.requires.1 in Fits-of_lt (omega (arith, g))
+names_add_names : (t : ℕ) → names-lts.Need-overflow-add-names (calls t) (names_at t) names.Post
+names_add_names t c = let g = c.before.before.before.before.before.before.before.before.before.before.before.before.before.before.before.before.requires.1 in Fits-of_lt (omega (arith, g))
 
-names-add-names-2 : (t : ℕ) → names-lts.Need-overflow-add-names-2 (calls t) (names_at t) names.Post
-names-add-names-2 t c = let g = c.before.before.before.before.before.before.before.before.before.before.before.before.before.before.before.before.requires.1 in Fits-of_lt (omega (arith, g))
+names_add_names_2 : (t : ℕ) → names-lts.Need-overflow-add-names-2 (calls t) (names_at t) names.Post
+names_add_names_2 t c = let g = c.before.before.before.before.before.before.before.before.before.before.before.before.before.before.before.before.requires.1 in Fits-of_lt (omega (arith, g))
 
-names-sub-names : (t : ℕ) → names-lts.Need-overflow-sub-names (calls t) (names_at t) names.Post
-names-sub-names t c = let e = c.before.before.before.before.before.before.before.before.before.before.before.before.before.before in omega (arith, e.if1.false)
+names_sub_names : (t : ℕ) → names-lts.Need-overflow-sub-names (calls t) (names_at t) names.Post
+names_sub_names t c = let e = c.before.before.before.before.before.before.before.before.before.before.before.before.before.before in omega (arith, e.if1.false)
 
-names-names-requires : (t : ℕ) → names-lts.Need-names-requires (calls t) (names_at t) names.Post
-names-names-requires t c κs = rest-asked t c.before.before.before.before.before.before.before.before.before.before.before.before.before.before
+names_names_requires : (t : ℕ) → names-lts.Need-names-requires (calls t) (names_at t) names.Post
+names_names_requires t c κs = rest_asked t c.before.before.before.before.before.before.before.before.before.before.before.before.before.before
 
-names-returns-2 : (t : ℕ) → names-lts.Need-returns-2 (calls t) (names_at t) names.Post
-names-returns-2 t c =
+names_returns_2 : (t : ℕ) → names-lts.Need-returns-2 (calls t) (names_at t) names.Post
+names_returns_2 t c =
     let u = c.before in
     let v = u.before in
     let j = v.before in
@@ -141,26 +141,26 @@ names-returns-2 t c =
     let e = f.before.before in
     let s = e.before.before in
     let a = s.args in
-    names-there a.items a.i a.comma a.k a.left a.w.now (octet-lt s.ranges.items) e.if1.false (omega (arith, s.requires.1, e.if1.false)) f.front.ensures (sym i.if2.true ∙ o.opens.ensures) r.past.ensures
-    (name-word _ names-are d.wide.result n.word.ensures ∙ ap (λ k. (named_at k).name) (d.wide.ensures.0 ∙ ap (λ (z : Spot). z.0) p.spot-at.ensures)) (sym j.if3.true ∙ q.opens2.ensures) u.past2.ensures v.with_item.ensures c.names.ensures
+    names_there a.items a.i a.comma a.k a.left a.w.now (octet_lt s.ranges.items) e.if1.false (omega (arith, s.requires.1, e.if1.false)) f.front.ensures (sym i.if2.true ∙ o.opens.ensures) r.past.ensures
+    (name_word _ names_are d.wide.result n.word.ensures ∙ ap (λ k. (named_at k).name) (d.wide.ensures.0 ∙ ap (λ (z : Spot). z.0) p.spot-at.ensures)) (sym j.if3.true ∙ q.opens2.ensures) u.past2.ensures v.with_item.ensures c.names.ensures
 
-names-add-names-3 : (t : ℕ) → names-lts.Need-overflow-add-names-3 (calls t) (names_at t) names.Post
-names-add-names-3 t c = let g = c.before.before.before.before.before.before.requires.1 in Fits-of_lt (omega (arith, g))
+names_add_names_3 : (t : ℕ) → names-lts.Need-overflow-add-names-3 (calls t) (names_at t) names.Post
+names_add_names_3 t c = let g = c.before.before.before.before.before.before.requires.1 in Fits-of_lt (omega (arith, g))
 
-names-add-names-4 : (t : ℕ) → names-lts.Need-overflow-add-names-4 (calls t) (names_at t) names.Post
-names-add-names-4 t c = let g = c.before.before.before.before.before.before.requires.1 in Fits-of_lt (omega (arith, g))
+names_add_names_4 : (t : ℕ) → names-lts.Need-overflow-add-names-4 (calls t) (names_at t) names.Post
+names_add_names_4 t c = let g = c.before.before.before.before.before.before.requires.1 in Fits-of_lt (omega (arith, g))
 
-names-sub-names-2 : (t : ℕ) → names-lts.Need-overflow-sub-names-2 (calls t) (names_at t) names.Post
-names-sub-names-2 t c = omega arith
+names_sub_names_2 : (t : ℕ) → names-lts.Need-overflow-sub-names-2 (calls t) (names_at t) names.Post
+names_sub_names_2 t c = omega arith
 
-names-without-item-requires : (t : ℕ) → names-lts.Need-without-item-requires (calls t) (names_at t) names.Post
-names-without-item-requires t c κs = tt
+names_without_item_requires : (t : ℕ) → names-lts.Need-without-item-requires (calls t) (names_at t) names.Post
+names_without_item_requires t c κs = tt
 
-names-names-requires-2 : (t : ℕ) → names-lts.Need-names-requires-2 (calls t) (names_at t) names.Post
-names-names-requires-2 t c κs = rest-asked t c.before.before.before.before.before
+names_names_requires_2 : (t : ℕ) → names-lts.Need-names-requires-2 (calls t) (names_at t) names.Post
+names_names_requires_2 t c κs = rest_asked t c.before.before.before.before.before
 
-names-returns-3 : (t : ℕ) → names-lts.Need-returns-3 (calls t) (names_at t) names.Post
-names-returns-3 t c =
+names_returns_3 : (t : ℕ) → names-lts.Need-returns-3 (calls t) (names_at t) names.Post
+names_returns_3 t c =
     let v = c.before in
     let j = v.before in
     let o = j.before in
@@ -169,38 +169,38 @@ names-returns-3 t c =
     let s = e.before.before in
     let a = s.args in
     let w = a.w.now in
-    let low = octet-lt s.ranges.items in
+    let low = octet_lt s.ranges.items in
     let few : a.i < 8 = omega (arith, s.requires.1, e.if1.false) in
-    names-absent a.items a.i a.comma a.k a.left w low e.if1.false few
+    names_absent a.items a.i a.comma a.k a.left w low e.if1.false few
     (⊎_elim
-    (λ g. name-other a.items a.i a.comma a.k a.left w low e.if1.false few f.front.ensures g.6.ensures
-    (name-word _ names-are g.4.result g.5.ensures ∙ ap (λ k. (named_at k).name) (g.4.ensures.0 ∙ ap (λ (z : Spot). z.0) g.1.ensures)) (sym g.8.left ∙ g.7.ensures))
-    (λ g. comma-other a.items a.i a.comma a.k a.left w low e.if1.false few f.front.ensures (sym g.left ∙ o.opens.ensures))
+    (λ g. name_other a.items a.i a.comma a.k a.left w low e.if1.false few f.front.ensures g.6.ensures
+    (name_word _ names_are g.4.result g.5.ensures ∙ ap (λ k. (named_at k).name) (g.4.ensures.0 ∙ ap (λ (z : Spot). z.0) g.1.ensures)) (sym g.8.left ∙ g.7.ensures))
+    (λ g. comma_other a.items a.i a.comma a.k a.left w low e.if1.false few f.front.ensures (sym g.left ∙ o.opens.ensures))
     j.if2.branch) v.without-item.ensures c.names2.ensures
 
 pub +names-spec : {M : Type 1} → statement M
-+names-spec = close μ-names λ t. names-lts.spec (calls t)
++names-spec = close μ_names λ t. names-lts.spec (calls t)
     (names_at t)
     names.Post
-    (names-returns t)
-    (names-slice-aggregate-front t)
-    (names-front-requires t)
-    (names-opens-requires t)
-    (names-spot-at-requires t)
-    (names-wide-requires t)
-    (names-word-requires t)
-    (names-past-requires t)
-    (names-opens-requires-2 t)
-    (names-with-item-requires t)
-    (names-past-requires-2 t)
-    (names-add-names t)
-    (names-add-names-2 t)
-    (names-sub-names t)
-    (names-names-requires t)
-    (names-returns-2 t)
-    (names-add-names-3 t)
-    (names-add-names-4 t)
-    (names-sub-names-2 t)
-    (names-without-item-requires t)
-    (names-names-requires-2 t)
-    (names-returns-3 t)
+    (names_returns t)
+    (names_slice_aggregate_front t)
+    (names_front_requires t)
+    (names_opens_requires t)
+    (names_spot_at_requires t)
+    (names_wide_requires t)
+    (names_word_requires t)
+    (names_past_requires t)
+    (names_opens_requires_2 t)
+    (names_with_item_requires t)
+    (names_past_requires_2 t)
+    (names_add_names t)
+    (names_add_names_2 t)
+    (names_sub_names t)
+    (names_names_requires t)
+    (names_returns_2 t)
+    (names_add_names_3 t)
+    (names_add_names_4 t)
+    (names_sub_names_2 t)
+    (names_without_item_requires t)
+    (names_names_requires_2 t)
+    (names_returns_3 t)

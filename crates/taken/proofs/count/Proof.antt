@@ -7,14 +7,14 @@ use Rattle.taken.specs.Laws.Items.{count_at}
 use Rattle.taken.proofs.count.Statement.{statement}
 use Rattle.taken.proofs.count.Tie as tie
 
-shape-at-requires : tie.Need-shape-at-requires
-shape-at-requires c κs = search rules
+shape_at_requires : tie.Need-shape-at-requires
+shape_at_requires c κs = search rules
 
-parts-requires : tie.Need-parts-requires
-parts-requires c κs = omega (arith, (shaped-well c.before.before.args.k c.shape_at.ensures).few)
+parts_requires : tie.Need-parts-requires
+parts_requires c κs = omega (arith, (shaped-well c.before.before.args.k c.shape_at.ensures).few)
 
-octet-requires : tie.Need-octet-requires
-octet-requires c κs = search rules
+octet_requires : tie.Need-octet-requires
+octet_requires c κs = search rules
 
 returns : tie.Need-returns
 returns c =
@@ -24,4 +24,4 @@ returns c =
     c.octet.ensures ∙ count_at a.k s.shape_at.ensures a.t.now p.parts.ensures
 
 pub count_spec : {M : Type 1} → statement M
-count_spec = tie.close (tie.spec shape-at-requires parts-requires octet-requires returns)
+count_spec = tie.close (tie.spec shape_at_requires parts_requires octet_requires returns)

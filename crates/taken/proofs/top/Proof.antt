@@ -7,24 +7,24 @@ use lib.IntN.{pos}
 use mir.Facts.{to_z-of_z}
 use mir.Syntax.{w32}
 use mir.Val.{SFits}
-use Rattle.taken.specs.Laws.Numbers.{top-is, top-most}
+use Rattle.taken.specs.Laws.Numbers.{top_is, top_most}
 use Rattle.taken.proofs.top.Statement.{statement}
 use Rattle.taken.proofs.top.Tie as tie
 
-sub-result : tie.Need-overflow-sub-result
-sub-result c = search rules
+sub_result : tie.Need-overflow-sub-result
+sub_result c = search rules
 
-shr-result : tie.Need-overflow-shr-result
-shr-result c = search rules
+shr_result : tie.Need-overflow-shr-result
+shr_result c = search rules
 
-cast-result : tie.Need-overflow-cast-result
-cast-result c = let w = c.args.w in record { sfits = omega (arith, top-is w c.requires, top-most w c.requires) }
+cast_result : tie.Need-overflow-cast-result
+cast_result c = let w = c.args.w in record { sfits = omega (arith, top_is w c.requires, top_most w c.requires) }
 
 returns : tie.Need-returns
 returns c =
     let w = c.args.w in
-    let f : SFits w32 (pos (16777215 / 2 ^ (24 - w))) = record { sfits = omega (arith, top-is w c.requires, top-most w c.requires) } in
-    to_z-of_z f ∙ ap pos (top-is w c.requires)
+    let f : SFits w32 (pos (16777215 / 2 ^ (24 - w))) = record { sfits = omega (arith, top_is w c.requires, top_most w c.requires) } in
+    to_z-of_z f ∙ ap pos (top_is w c.requires)
 
-pub top-spec : {M : Type 1} → statement M
-top-spec = tie.close (tie.spec sub-result shr-result cast-result returns)
+pub top_spec : {M : Type 1} → statement M
+top_spec = tie.close (tie.spec sub_result shr_result cast_result returns)

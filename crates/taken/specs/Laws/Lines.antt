@@ -11,133 +11,133 @@ use Rattle.std.proofs.lemmas.List.{replicate-append-replicate}
 use Rattle.std.proofs.Math.Seq.{sets}
 use Rattle.codec.specs.Pick.{pick}
 use Rattle.codec.specs.Item.{slots_of}
-use Rattle.codec.specs.Printed.{sameText}
-use Rattle.codec.specs.Laws.Tests.{and_l, and_r}
-use Rattle.codec.specs.Laws.Sets.{sets-append}
+use Rattle.codec.specs.Printed.{same_text}
+use Rattle.codec.proofs.Laws.Tests.{and_l, and_r}
+use Rattle.codec.proofs.Laws.Sets.{sets_append}
 use Rattle.papers.specs.Names.{Key}
-use Rattle.scope.specs.Sheet.{partsThere}
+use Rattle.scope.specs.Sheet.{parts_there}
 use Rattle.papers.specs.Papers.{SLOTS}
-use Rattle.lengths.specs.Lines.{line_at, first_at, countAt}
-use Rattle.lengths.specs.Laws.Lines.{narrow-line}
+use Rattle.lengths.specs.Lines.{line_at, first_at, count_at}
+use Rattle.lengths.specs.Laws.Lines.{narrow_line}
 use Rattle.shapes.specs.Shapes.{lines_from, in_turn}
-use Rattle.shapes.specs.Laws.Runs.{turn-rest, turn-first, lines-on}
-use Rattle.guess.specs.Guess.{behindKeys, takenLines, leftLines, begins, head_of, open_in, bit, bits}
-use Rattle.taken.specs.Tables.{stepAt, headAt}
-use Rattle.taken.specs.Lines.{takenAt, behindAt, thereAt, opensFrom, takenFrom, leftFrom, flagsFrom}
-use Rattle.taken.specs.Laws.Numbers.{steady, numbers-taken, behind-taken, taken-length, taken_none, behind-none}
+use Rattle.shapes.specs.Laws.Runs.{turn_rest, turn_first, lines_on}
+use Rattle.guess.specs.Guess.{behind_keys, taken_lines, left_lines, begins, head_of, open_in, bit, bits}
+use Rattle.taken.specs.Tables.{step_at, head_at}
+use Rattle.taken.specs.Lines.{taken_at, behind_at, there_at, opens_from, taken_from, left_from, flags_from}
+use Rattle.taken.specs.Laws.Numbers.{steady, numbers_taken, behind_taken, taken_length, taken_none, behind_none}
 
 -- a group of keys for each line
-unfoldable pub steadyFrom : ℕ → ℕ → List (List Key) → Bool
+unfoldable pub steady_from : ℕ → ℕ → List (List Key) → Bool
 unfolding steady
-steadyFrom b zero [] = true
-steadyFrom b zero (k ∷ ks) = false
-steadyFrom b (suc left) [] = false
-steadyFrom b (suc left) (k ∷ ks) = steady (stepAt b) k (line_at b).pieces && steadyFrom (b + 1) left ks
+steady_from b zero [] = true
+steady_from b zero (k ∷ ks) = false
+steady_from b (suc left) [] = false
+steady_from b (suc left) (k ∷ ks) = steady (step_at b) k (line_at b).pieces && steady_from (b + 1) left ks
 
-pub steady-length : (b left : ℕ) (ks : List (List Key)) → T (steadyFrom b left ks) → length ks ≡ left
-unfolding steadyFrom
+pub steady-length : (b left : ℕ) (ks : List (List Key)) → T (steady_from b left ks) → length ks ≡ left
+unfolding steady_from
 steady-length b zero [] h = refl
 steady-length b zero (k ∷ ks) h = absurd h
 steady-length b (suc left) [] h = absurd h
-steady-length b (suc left) (k ∷ ks) h = ap suc (steady-length (b + 1) left ks (and_r (steady (stepAt b) k (line_at b).pieces) _ h))
+steady-length b (suc left) (k ∷ ks) h = ap suc (steady-length (b + 1) left ks (and_r (steady (step_at b) k (line_at b).pieces) _ h))
 
 -- none of them begins with a key; each begins with the first of its group, and that is a word
-unfoldable pub plainFrom : ℕ → ℕ → Bool
-plainFrom b zero = true
-plainFrom b (suc left) = eqb (length (headAt b)) 0 && plainFrom (b + 1) left
+unfoldable pub plain_from : ℕ → ℕ → Bool
+plain_from b zero = true
+plain_from b (suc left) = eqb (length (head_at b)) 0 && plain_from (b + 1) left
 
-unfoldable pub keyedFrom : ℕ → List (List Key) → Bool
-keyedFrom b [] = true
-keyedFrom b (k ∷ ks) = (sameText (headAt b) (head_of k) && ltb 0 (length (headAt b))) && keyedFrom (b + 1) ks
+unfoldable pub keyed_from : ℕ → List (List Key) → Bool
+keyed_from b [] = true
+keyed_from b (k ∷ ks) = (same_text (head_at b) (head_of k) && ltb 0 (length (head_at b))) && keyed_from (b + 1) ks
 
 -- ---- the guess's lines
 
-pub lines-taken : (b left n : ℕ) (ks : List (List Key)) (t : List ℕ) → T (steadyFrom b left ks) → takenLines (opensFrom b left n t) ks (lines_from b left) t ≡ takenFrom b left n t
-unfolding steadyFrom takenLines opensFrom lines_from takenFrom
-lines-taken b zero n [] t h = refl
-lines-taken b zero n (k ∷ ks) t h = absurd h
-lines-taken b (suc left) n [] t h = absurd h
-lines-taken b (suc left) n (k ∷ ks) t h = go (thereAt b n t) (λ u. lines-taken (b + 1) left (n - 1) ks u (and_r (steady (stepAt b) k (line_at b).pieces) _ h))
+pub lines_taken : (b left n : ℕ) (ks : List (List Key)) (t : List ℕ) → T (steady_from b left ks) → taken_lines (opens_from b left n t) ks (lines_from b left) t ≡ taken_from b left n t
+unfolding steady_from taken_lines opens_from lines_from taken_from
+lines_taken b zero n [] t h = refl
+lines_taken b zero n (k ∷ ks) t h = absurd h
+lines_taken b (suc left) n [] t h = absurd h
+lines_taken b (suc left) n (k ∷ ks) t h = go (there_at b n t) (λ u. lines_taken (b + 1) left (n - 1) ks u (and_r (steady (step_at b) k (line_at b).pieces) _ h))
   where
-    one : T (steady (stepAt b) k (line_at b).pieces)
-    one = and_l (steady (stepAt b) k (line_at b).pieces) _ h
+    one : T (steady (step_at b) k (line_at b).pieces)
+    one = and_l (steady (step_at b) k (line_at b).pieces) _ h
 
-    go : (x : Bool) → ((u : List ℕ) → takenLines (opensFrom (b + 1) left (n - 1) u) ks (lines_from (b + 1) left) u ≡ takenFrom (b + 1) left (n - 1) u)
-        → takenLines (x ∷ opensFrom (b + 1) left (n - 1) (pick x (behindAt b t) t)) (k ∷ ks) (line_at b ∷ lines_from (b + 1) left) t
-        ≡ takenAt b (pick x t []) ++ takenFrom (b + 1) left (n - 1) (pick x (behindAt b t) t)
+    go : (x : Bool) → ((u : List ℕ) → taken_lines (opens_from (b + 1) left (n - 1) u) ks (lines_from (b + 1) left) u ≡ taken_from (b + 1) left (n - 1) u)
+        → taken_lines (x ∷ opens_from (b + 1) left (n - 1) (pick x (behind_at b t) t)) (k ∷ ks) (line_at b ∷ lines_from (b + 1) left) t
+        ≡ taken_at b (pick x t []) ++ taken_from (b + 1) left (n - 1) (pick x (behind_at b t) t)
     go true more =
-        ap₂ ◌++◌ (numbers-taken (stepAt b) k (line_at b).pieces t one)
-        (ap (takenLines (opensFrom (b + 1) left (n - 1) (behindAt b t)) ks (lines_from (b + 1) left)) (behind-taken (stepAt b) k (line_at b).pieces t one)
-        ∙ more (behindAt b t))
-    go false more = ap₂ ◌++◌ (sym (taken_none (stepAt b) (line_at b).pieces (narrow-line b))) (more t)
+        ap₂ ◌++◌ (numbers_taken (step_at b) k (line_at b).pieces t one)
+        (ap (taken_lines (opens_from (b + 1) left (n - 1) (behind_at b t)) ks (lines_from (b + 1) left)) (behind_taken (step_at b) k (line_at b).pieces t one)
+        ∙ more (behind_at b t))
+    go false more = ap₂ ◌++◌ (sym (taken_none (step_at b) (line_at b).pieces (narrow_line b))) (more t)
 
-pub lines_left : (b left n : ℕ) (ks : List (List Key)) (t : List ℕ) → T (steadyFrom b left ks) → leftLines (opensFrom b left n t) ks t ≡ leftFrom b left n t
-unfolding steadyFrom leftLines opensFrom leftFrom
+pub lines_left : (b left n : ℕ) (ks : List (List Key)) (t : List ℕ) → T (steady_from b left ks) → left_lines (opens_from b left n t) ks t ≡ left_from b left n t
+unfolding steady_from left_lines opens_from left_from
 lines_left b zero n [] t h = refl
 lines_left b zero n (k ∷ ks) t h = absurd h
 lines_left b (suc left) n [] t h = absurd h
-lines_left b (suc left) n (k ∷ ks) t h = go (thereAt b n t) (λ u. lines_left (b + 1) left (n - 1) ks u (and_r (steady (stepAt b) k (line_at b).pieces) _ h))
+lines_left b (suc left) n (k ∷ ks) t h = go (there_at b n t) (λ u. lines_left (b + 1) left (n - 1) ks u (and_r (steady (step_at b) k (line_at b).pieces) _ h))
   where
-    go : (x : Bool) → ((u : List ℕ) → leftLines (opensFrom (b + 1) left (n - 1) u) ks u ≡ leftFrom (b + 1) left (n - 1) u)
-        → leftLines (x ∷ opensFrom (b + 1) left (n - 1) (pick x (behindAt b t) t)) (k ∷ ks) t ≡ leftFrom (b + 1) left (n - 1) (pick x (behindAt b t) t)
+    go : (x : Bool) → ((u : List ℕ) → left_lines (opens_from (b + 1) left (n - 1) u) ks u ≡ left_from (b + 1) left (n - 1) u)
+        → left_lines (x ∷ opens_from (b + 1) left (n - 1) (pick x (behind_at b t) t)) (k ∷ ks) t ≡ left_from (b + 1) left (n - 1) (pick x (behind_at b t) t)
     go true more =
-        ap (leftLines (opensFrom (b + 1) left (n - 1) (behindAt b t)) ks) (behind-taken (stepAt b) k (line_at b).pieces t (and_l (steady (stepAt b) k (line_at b).pieces) _ h))
-        ∙ more (behindAt b t)
+        ap (left_lines (opens_from (b + 1) left (n - 1) (behind_at b t)) ks) (behind_taken (step_at b) k (line_at b).pieces t (and_l (steady (step_at b) k (line_at b).pieces) _ h))
+        ∙ more (behind_at b t)
     go false more = more t
 
-pub flags-open : (b left n : ℕ) (t : List ℕ) → bits (opensFrom b left n t) ≡ flagsFrom b left n t
-unfolding bits opensFrom flagsFrom
-flags-open b zero n t = refl
-flags-open b (suc left) n t = ap (bit (thereAt b n t) ∷◌) (flags-open (b + 1) left (n - 1) (pick (thereAt b n t) (behindAt b t) t))
+pub flags_open : (b left n : ℕ) (t : List ℕ) → bits (opens_from b left n t) ≡ flags_from b left n t
+unfolding bits opens_from flags_from
+flags_open b zero n t = refl
+flags_open b (suc left) n t = ap (bit (there_at b n t) ∷◌) (flags_open (b + 1) left (n - 1) (pick (there_at b n t) (behind_at b t) t))
 
 -- a chain's parts are there by their count alone
-no-head : (w t : List ℕ) → T (eqb (length w) 0) → begins w t ≡ true
+no_head : (w t : List ℕ) → T (eqb (length w) 0) → begins w t ≡ true
 unfolding begins
-no-head [] t h = refl
-no-head (o ∷ w) t h = let e : suc (length w) ≡ 0 = eqb→eq (suc (length w)) 0 h in absurd (omega arith)
+no_head [] t h = refl
+no_head (o ∷ w) t h = let e : suc (length w) ≡ 0 = eqb→eq (suc (length w)) 0 h in absurd (omega arith)
 
-and-true : (b : Bool) → b && true ≡ b
-and-true true = refl
-and-true false = refl
+and_true : (b : Bool) → b && true ≡ b
+and_true true = refl
+and_true false = refl
 
-pub parts-open : (b left n : ℕ) (t : List ℕ) → T (plainFrom b left) → partsThere n (lines_from b left) ≡ opensFrom b left n t
-unfolding plainFrom partsThere opensFrom lines_from
-parts-open b zero n t h = refl
-parts-open b (suc left) n t h =
-    ap₂ ◌∷◌ (sym (ap (ltb 0 n &&◌) (no-head (headAt b) t (and_l (eqb (length (headAt b)) 0) _ h)) ∙ and-true (ltb 0 n)))
-    (parts-open (b + 1) left (n - 1) (pick (thereAt b n t) (behindAt b t) t) (and_r (eqb (length (headAt b)) 0) _ h))
+pub parts_open : (b left n : ℕ) (t : List ℕ) → T (plain_from b left) → parts_there n (lines_from b left) ≡ opens_from b left n t
+unfolding plain_from parts_there opens_from lines_from
+parts_open b zero n t h = refl
+parts_open b (suc left) n t h =
+    ap₂ ◌∷◌ (sym (ap (ltb 0 n &&◌) (no_head (head_at b) t (and_l (eqb (length (head_at b)) 0) _ h)) ∙ and_true (ltb 0 n)))
+    (parts_open (b + 1) left (n - 1) (pick (there_at b n t) (behind_at b t) t) (and_r (eqb (length (head_at b)) 0) _ h))
 
 -- subfields by their first keys
-same-is : (v w : List ℕ) → T (sameText v w) → v ≡ w
-same-is [] [] h = refl
-same-is [] (y ∷ w) h = absurd h
-same-is (x ∷ v) [] h = absurd h
-same-is (x ∷ v) (y ∷ w) h = ap₂ ◌∷◌ (eqb→eq x y (and_l (eqb x y) _ h)) (same-is v w (and_r (eqb x y) _ h))
+same_is : (v w : List ℕ) → T (same_text v w) → v ≡ w
+same_is [] [] h = refl
+same_is [] (y ∷ w) h = absurd h
+same_is (x ∷ v) [] h = absurd h
+same_is (x ∷ v) (y ∷ w) h = ap₂ ◌∷◌ (eqb→eq x y (and_l (eqb x y) _ h)) (same_is v w (and_r (eqb x y) _ h))
 
-pub subfields-open : (b left n : ℕ) (ks : List (List Key)) (t : List ℕ) → T (keyedFrom b ks) → T (steadyFrom b left ks) → open_in n ks t ≡ opensFrom b left n t
-unfolding keyedFrom steadyFrom open_in opensFrom
-subfields-open b zero n [] t h s = refl
-subfields-open b zero n (k ∷ ks) t h s = absurd s
-subfields-open b (suc left) n [] t h s = absurd s
-subfields-open b (suc left) n (k ∷ ks) t h s =
-    let e : head_of k ≡ headAt b = sym (same-is (headAt b) (head_of k) (and_l (sameText (headAt b) (head_of k)) _ (and_l (sameText (headAt b) (head_of k) && ltb 0 (length (headAt b))) _ h))) in
-    let g : behindKeys k t ≡ behindAt b t = behind-taken (stepAt b) k (line_at b).pieces t (and_l (steady (stepAt b) k (line_at b).pieces) _ s) in
+pub subfields_open : (b left n : ℕ) (ks : List (List Key)) (t : List ℕ) → T (keyed_from b ks) → T (steady_from b left ks) → open_in n ks t ≡ opens_from b left n t
+unfolding keyed_from steady_from open_in opens_from
+subfields_open b zero n [] t h s = refl
+subfields_open b zero n (k ∷ ks) t h s = absurd s
+subfields_open b (suc left) n [] t h s = absurd s
+subfields_open b (suc left) n (k ∷ ks) t h s =
+    let e : head_of k ≡ head_at b = sym (same_is (head_at b) (head_of k) (and_l (same_text (head_at b) (head_of k)) _ (and_l (same_text (head_at b) (head_of k) && ltb 0 (length (head_at b))) _ h))) in
+    let g : behind_keys k t ≡ behind_at b t = behind_taken (step_at b) k (line_at b).pieces t (and_l (steady (step_at b) k (line_at b).pieces) _ s) in
     ap₂ (λ w u. (ltb 0 n && begins w t) ∷ open_in (n - 1) ks (pick (ltb 0 n && begins w t) u t)) e g
-    ∙ ap (thereAt b n t ∷◌) (subfields-open (b + 1) left (n - 1) ks (pick (thereAt b n t) (behindAt b t) t) (and_r (sameText (headAt b) (head_of k) && ltb 0 (length (headAt b))) _ h) (and_r (steady (stepAt b) k (line_at b).pieces) _ s))
+    ∙ ap (there_at b n t ∷◌) (subfields_open (b + 1) left (n - 1) ks (pick (there_at b n t) (behind_at b t) t) (and_r (same_text (head_at b) (head_of k) && ltb 0 (length (head_at b))) _ h) (and_r (steady (step_at b) k (line_at b).pieces) _ s))
 
 -- ---- how many numbers and flags
 
-pub flags-length : (b left n : ℕ) (t : List ℕ) → length (flagsFrom b left n t) ≡ left
-unfolding flagsFrom
+pub flags-length : (b left n : ℕ) (t : List ℕ) → length (flags_from b left n t) ≡ left
+unfolding flags_from
 flags-length b zero n t = refl
-flags-length b (suc left) n t = ap suc (flags-length (b + 1) left (n - 1) (pick (thereAt b n t) (behindAt b t) t))
+flags-length b (suc left) n t = ap suc (flags-length (b + 1) left (n - 1) (pick (there_at b n t) (behind_at b t) t))
 
-pub lines-slots : (b left n : ℕ) (t : List ℕ) → length (takenFrom b left n t) ≡ slots_of (lines_from b left)
-unfolding takenFrom lines_from slots_of
-lines-slots b zero n t = refl
-lines-slots b (suc left) n t =
-    length-append (takenAt b (pick (thereAt b n t) t [])) _
-    ∙ ap₂ ◌+◌ (taken-length (stepAt b) (line_at b).pieces (pick (thereAt b n t) t [])) (lines-slots (b + 1) left (n - 1) (pick (thereAt b n t) (behindAt b t) t))
+pub lines_slots : (b left n : ℕ) (t : List ℕ) → length (taken_from b left n t) ≡ slots_of (lines_from b left)
+unfolding taken_from lines_from slots_of
+lines_slots b zero n t = refl
+lines_slots b (suc left) n t =
+    length-append (taken_at b (pick (there_at b n t) t [])) _
+    ∙ ap₂ ◌+◌ (taken_length (step_at b) (line_at b).pieces (pick (there_at b n t) t [])) (lines_slots (b + 1) left (n - 1) (pick (there_at b n t) (behind_at b t) t))
 
 -- ---- of no text: zeros
 
@@ -145,22 +145,22 @@ either : {A : Type 0} (b : Bool) (x y : A) → x ≡ y → pick b x y ≡ y
 either true x y e = e
 either false x y e = refl
 
-pub lines-blank : (b left n : ℕ) → takenFrom b left n [] ≡ replicate (slots_of (lines_from b left)) (pos 0)
-unfolding takenFrom lines_from slots_of
-lines-blank b zero n = refl
-lines-blank b (suc left) n =
-    ap₂ (λ x y. takenAt b x ++ takenFrom (b + 1) left (n - 1) y) (either (thereAt b n []) [] [] refl) (either (thereAt b n []) (behindAt b []) [] (behind-none (stepAt b) (line_at b).pieces))
-    ∙ ap₂ ◌++◌ (taken_none (stepAt b) (line_at b).pieces (narrow-line b)) (lines-blank (b + 1) left (n - 1))
-    ∙ replicate-append-replicate (countAt b) (slots_of (lines_from (b + 1) left)) (pos 0)
+pub lines_blank : (b left n : ℕ) → taken_from b left n [] ≡ replicate (slots_of (lines_from b left)) (pos 0)
+unfolding taken_from lines_from slots_of
+lines_blank b zero n = refl
+lines_blank b (suc left) n =
+    ap₂ (λ x y. taken_at b x ++ taken_from (b + 1) left (n - 1) y) (either (there_at b n []) [] [] refl) (either (there_at b n []) (behind_at b []) [] (behind_none (step_at b) (line_at b).pieces))
+    ∙ ap₂ ◌++◌ (taken_none (step_at b) (line_at b).pieces (narrow_line b)) (lines_blank (b + 1) left (n - 1))
+    ∙ replicate-append-replicate (count_at b) (slots_of (lines_from (b + 1) left)) (pos 0)
 
-pub flags-blank : (b left n : ℕ) (ks : List (List Key)) → length ks ≡ left → T (keyedFrom b ks) → flagsFrom b left n [] ≡ replicate left (pos 0)
-unfolding flagsFrom keyedFrom bit begins
+pub flags-blank : (b left n : ℕ) (ks : List (List Key)) → length ks ≡ left → T (keyed_from b ks) → flags_from b left n [] ≡ replicate left (pos 0)
+unfolding flags_from keyed_from bit begins
 flags-blank b zero n ks e h = refl
 flags-blank b (suc left) n [] e h = absurd (omega arith)
 flags-blank b (suc left) n (k ∷ ks) e h =
-    let d : T (ltb 0 (length (headAt b))) = and_r (sameText (headAt b) (head_of k)) _ (and_l (sameText (headAt b) (head_of k) && ltb 0 (length (headAt b))) _ h) in
-    ap₂ (λ x y. bit x ∷ flagsFrom (b + 1) left (n - 1) y) (shut (ltb 0 n) (headAt b) d) (either (thereAt b n []) (behindAt b []) [] (behind-none (stepAt b) (line_at b).pieces))
-    ∙ ap (pos 0 ∷◌) (flags-blank (b + 1) left (n - 1) ks (omega arith) (and_r (sameText (headAt b) (head_of k) && ltb 0 (length (headAt b))) _ h))
+    let d : T (ltb 0 (length (head_at b))) = and_r (same_text (head_at b) (head_of k)) _ (and_l (same_text (head_at b) (head_of k) && ltb 0 (length (head_at b))) _ h) in
+    ap₂ (λ x y. bit x ∷ flags_from (b + 1) left (n - 1) y) (shut (ltb 0 n) (head_at b) d) (either (there_at b n []) (behind_at b []) [] (behind_none (step_at b) (line_at b).pieces))
+    ∙ ap (pos 0 ∷◌) (flags-blank (b + 1) left (n - 1) ks (omega arith) (and_r (same_text (head_at b) (head_of k) && ltb 0 (length (head_at b))) _ h))
   where
     shut : (x : Bool) (w : List ℕ) → T (ltb 0 (length w)) → x && begins w [] ≡ false
     shut x [] d = absurd d
@@ -169,11 +169,11 @@ flags-blank b (suc left) n (k ∷ ks) e h =
 
 -- ---- the ways out of `is_there`
 
-pub there-none : (b n : ℕ) (t : List ℕ) → n ≡ 0 → false ≡ thereAt b n t
-there-none b n t e = rw e refl
+pub there_none : (b n : ℕ) (t : List ℕ) → n ≡ 0 → false ≡ there_at b n t
+there_none b n t e = rw e refl
 
-pub there-some : (b n : ℕ) (t : List ℕ) → (n ≡ 0 → ⊥) → {x : Bool} {w : List ℕ} → x ≡ begins w t → w ≡ headAt b → x ≡ thereAt b n t
-there-some b n t h {x} ex ew = ex ∙ ap (λ v. begins v t) ew ∙ ap (λ y. y && begins (headAt b) t) (sym (lt-ltb 0 n (omega arith)))
+pub there_some : (b n : ℕ) (t : List ℕ) → (n ≡ 0 → ⊥) → {x : Bool} {w : List ℕ} → x ≡ begins w t → w ≡ head_at b → x ≡ there_at b n t
+there_some b n t h {x} ex ew = ex ∙ ap (λ v. begins v t) ew ∙ ap (λ y. y && begins (head_at b) t) (sym (lt-ltb 0 n (omega arith)))
 
 -- ---- the ways out of `lines` and `flags`
 
@@ -181,67 +181,67 @@ there-some b n t h {x} ex ew = ex ∙ ap (λ v. begins v t) ew ∙ ap (λ y. y &
 abbrev pub Room : ℕ → ℕ → ℕ → Type 0
 Room base b left = (left ≡ 0 → ⊥) → base + (first_at b + slots_of (lines_from b left)) ≤ SLOTS
 
-pub lines_none : (b left n base : ℕ) (t : List ℕ) (l : List ℤ) → left ≡ 0 → (t ≡ leftFrom b left n t) × (l ≡ sets l (base + first_at b) (takenFrom b left n t))
-unfolding leftFrom takenFrom
+pub lines_none : (b left n base : ℕ) (t : List ℕ) (l : List ℤ) → left ≡ 0 → (t ≡ left_from b left n t) × (l ≡ sets l (base + first_at b) (taken_from b left n t))
+unfolding left_from taken_from
 lines_none b left n base t l e = (rw e refl, rw e refl)
 
 module _ (b left : ℕ) (some : left ≡ 0 → ⊥) where
-  pub first-room : (base : ℕ) → Room base b left → base + (first_at b + countAt b) ≤ SLOTS
+  pub first_room : (base : ℕ) → Room base b left → base + (first_at b + count_at b) ≤ SLOTS
   unfolding slots_of
-  first-room base room = let e : slots_of (lines_from b left) ≡ countAt b + slots_of (lines_from (b + 1) (left - 1)) = ap slots_of (lines-on b left some) in omega (arith, room some)
+  first_room base room = let e : slots_of (lines_from b left) ≡ count_at b + slots_of (lines_from (b + 1) (left - 1)) = ap slots_of (lines_on b left some) in omega (arith, room some)
 
-  pub rest-asks : (base : ℕ) → (b + left ≤ 300) × T (in_turn b left) × Room base b left → (b + 1 + (left - 1) ≤ 300) × T (in_turn (b + 1) (left - 1)) × Room base (b + 1) (left - 1)
+  pub rest_asks : (base : ℕ) → (b + left ≤ 300) × T (in_turn b left) × Room base b left → (b + 1 + (left - 1) ≤ 300) × T (in_turn (b + 1) (left - 1)) × Room base (b + 1) (left - 1)
   unfolding slots_of
-  rest-asks base g =
-      let e : slots_of (lines_from b left) ≡ countAt b + slots_of (lines_from (b + 1) (left - 1)) = ap slots_of (lines-on b left some) in
-      (omega (arith, g.0, some), turn-rest b left some g.1, λ more. omega (arith, g.2 some, turn-first b left more g.1))
+  rest_asks base g =
+      let e : slots_of (lines_from b left) ≡ count_at b + slots_of (lines_from (b + 1) (left - 1)) = ap slots_of (lines_on b left some) in
+      (omega (arith, g.0, some), turn_rest b left some g.1, λ more. omega (arith, g.2 some, turn_first b left more g.1))
 
   -- x says whether line b is there
-  module _ (n : ℕ) (t : List ℕ) {x : Bool} (ex : x ≡ thereAt b n t) {u : List ℕ} (eu : u ≡ pick x (behindAt b t) t) {j : ℕ} (ej : j ≡ n - 1) where
-    pub lines_step : T (in_turn b left) → (base : ℕ) (l : List ℤ) {q m : List ℤ} {r : List ℕ} → q ≡ sets l (base + first_at b) (takenAt b (pick x t []))
-        → (r ≡ leftFrom (b + 1) (left - 1) j u) × (m ≡ sets q (base + first_at (b + 1)) (takenFrom (b + 1) (left - 1) j u))
-        → (r ≡ leftFrom b left n t) × (m ≡ sets l (base + first_at b) (takenFrom b left n t))
-    unfolding leftFrom takenFrom
+  module _ (n : ℕ) (t : List ℕ) {x : Bool} (ex : x ≡ there_at b n t) {u : List ℕ} (eu : u ≡ pick x (behind_at b t) t) {j : ℕ} (ej : j ≡ n - 1) where
+    pub lines_step : T (in_turn b left) → (base : ℕ) (l : List ℤ) {q m : List ℤ} {r : List ℕ} → q ≡ sets l (base + first_at b) (taken_at b (pick x t []))
+        → (r ≡ left_from (b + 1) (left - 1) j u) × (m ≡ sets q (base + first_at (b + 1)) (taken_from (b + 1) (left - 1) j u))
+        → (r ≡ left_from b left n t) × (m ≡ sets l (base + first_at b) (taken_from b left n t))
+    unfolding left_from taken_from
     lines_step turn base l {q} {m} {r} eq g = go left some turn g
       where
         first : List ℤ
-        first = takenAt b (pick x t [])
+        first = taken_at b (pick x t [])
 
         rest : ℕ → List ℤ
-        rest k = takenFrom (b + 1) k (n - 1) (pick (thereAt b n t) (behindAt b t) t)
+        rest k = taken_from (b + 1) k (n - 1) (pick (there_at b n t) (behind_at b t) t)
 
-        eu2 : u ≡ pick (thereAt b n t) (behindAt b t) t
-        eu2 = eu ∙ ap (λ y. pick y (behindAt b t) t) ex
+        eu2 : u ≡ pick (there_at b n t) (behind_at b t) t
+        eu2 = eu ∙ ap (λ y. pick y (behind_at b t) t) ex
 
-        together : (k : ℕ) {slot : ℕ} → slot ≡ base + first_at b + countAt b → sets q slot (rest k) ≡ sets l (base + first_at b) (takenAt b (pick (thereAt b n t) t []) ++ rest k)
+        together : (k : ℕ) {slot : ℕ} → slot ≡ base + first_at b + count_at b → sets q slot (rest k) ≡ sets l (base + first_at b) (taken_at b (pick (there_at b n t) t []) ++ rest k)
         together k es =
-            ap₂ (λ y s. sets y s (rest k)) eq (es ∙ ap (base + first_at b +◌) (sym (taken-length (stepAt b) (line_at b).pieces (pick x t []))))
-            ∙ sym (sets-append l (base + first_at b) first (rest k))
-            ∙ ap (λ y. sets l (base + first_at b) (takenAt b (pick y t []) ++ rest k)) ex
+            ap₂ (λ y s. sets y s (rest k)) eq (es ∙ ap (base + first_at b +◌) (sym (taken_length (step_at b) (line_at b).pieces (pick x t []))))
+            ∙ sym (sets_append l (base + first_at b) first (rest k))
+            ∙ ap (λ y. sets l (base + first_at b) (taken_at b (pick y t []) ++ rest k)) ex
 
-        go : (left : ℕ) → (left ≡ 0 → ⊥) → T (in_turn b left) → (r ≡ leftFrom (b + 1) (left - 1) j u) × (m ≡ sets q (base + first_at (b + 1)) (takenFrom (b + 1) (left - 1) j u))
-            → (r ≡ leftFrom b left n t) × (m ≡ sets l (base + first_at b) (takenFrom b left n t))
+        go : (left : ℕ) → (left ≡ 0 → ⊥) → T (in_turn b left) → (r ≡ left_from (b + 1) (left - 1) j u) × (m ≡ sets q (base + first_at (b + 1)) (taken_from (b + 1) (left - 1) j u))
+            → (r ≡ left_from b left n t) × (m ≡ sets l (base + first_at b) (taken_from b left n t))
         go zero some turn g = absurd (some refl)
         go (suc zero) some turn g = (g.0 ∙ eu2, g.1 ∙ together 0 refl)
         go (suc (suc k)) some turn g =
             let e : suc (suc k) - 1 ≡ suc k = omega arith in
-            let f : base + first_at (b + 1) ≡ base + first_at b + countAt b = omega (arith, turn-first b (suc (suc k)) (λ z. omega (arith, z, e)) turn) in (
-              g.0 ∙ ap₂ (leftFrom (b + 1) (suc (suc k) - 1)) ej eu2 ∙ ap (λ i. leftFrom (b + 1) i (n - 1) (pick (thereAt b n t) (behindAt b t) t)) e,
-              g.1 ∙ ap₂ (λ i v. sets q (base + first_at (b + 1)) (takenFrom (b + 1) (suc (suc k) - 1) i v)) ej eu2 ∙ ap (λ i. sets q (base + first_at (b + 1)) (rest i)) e ∙ together (suc k) f,
+            let f : base + first_at (b + 1) ≡ base + first_at b + count_at b = omega (arith, turn_first b (suc (suc k)) (λ z. omega (arith, z, e)) turn) in (
+              g.0 ∙ ap₂ (left_from (b + 1) (suc (suc k) - 1)) ej eu2 ∙ ap (λ i. left_from (b + 1) i (n - 1) (pick (there_at b n t) (behind_at b t) t)) e,
+              g.1 ∙ ap₂ (λ i v. sets q (base + first_at (b + 1)) (taken_from (b + 1) (suc (suc k) - 1) i v)) ej eu2 ∙ ap (λ i. sets q (base + first_at (b + 1)) (rest i)) e ∙ together (suc k) f,
             )
 
-    pub flags-step : (l : List ℤ) (slot : ℕ) {q m : List ℤ} → q ≡ set l slot (bit x) → m ≡ sets q (slot + 1) (flagsFrom (b + 1) (left - 1) j u) → m ≡ sets l slot (flagsFrom b left n t)
-    unfolding flagsFrom
-    flags-step l slot {q} {m} eq em = go left some em
+    pub flags_step : (l : List ℤ) (slot : ℕ) {q m : List ℤ} → q ≡ set l slot (bit x) → m ≡ sets q (slot + 1) (flags_from (b + 1) (left - 1) j u) → m ≡ sets l slot (flags_from b left n t)
+    unfolding flags_from
+    flags_step l slot {q} {m} eq em = go left some em
       where
-        go : (left : ℕ) → (left ≡ 0 → ⊥) → m ≡ sets q (slot + 1) (flagsFrom (b + 1) (left - 1) j u) → m ≡ sets l slot (flagsFrom b left n t)
+        go : (left : ℕ) → (left ≡ 0 → ⊥) → m ≡ sets q (slot + 1) (flags_from (b + 1) (left - 1) j u) → m ≡ sets l slot (flags_from b left n t)
         go zero some em = absurd (some refl)
         go (suc k) some em =
             let e : suc k - 1 ≡ k = omega arith in
-            em ∙ ap₂ (λ y s. sets y s (flagsFrom (b + 1) (suc k - 1) j u)) (eq ∙ ap (λ y. set l slot (bit y)) ex) (add-one slot)
-            ∙ ap₂ (λ i v. sets (set l slot (bit (thereAt b n t))) (suc slot) (flagsFrom (b + 1) (suc k - 1) i v)) ej (eu ∙ ap (λ y. pick y (behindAt b t) t) ex)
-            ∙ ap (λ i. sets (set l slot (bit (thereAt b n t))) (suc slot) (flagsFrom (b + 1) i (n - 1) (pick (thereAt b n t) (behindAt b t) t))) e
+            em ∙ ap₂ (λ y s. sets y s (flags_from (b + 1) (suc k - 1) j u)) (eq ∙ ap (λ y. set l slot (bit y)) ex) (add-one slot)
+            ∙ ap₂ (λ i v. sets (set l slot (bit (there_at b n t))) (suc slot) (flags_from (b + 1) (suc k - 1) i v)) ej (eu ∙ ap (λ y. pick y (behind_at b t) t) ex)
+            ∙ ap (λ i. sets (set l slot (bit (there_at b n t))) (suc slot) (flags_from (b + 1) i (n - 1) (pick (there_at b n t) (behind_at b t) t))) e
 
-pub flags-none : (b left n slot : ℕ) (t : List ℕ) (l : List ℤ) → left ≡ 0 → l ≡ sets l slot (flagsFrom b left n t)
-unfolding flagsFrom
-flags-none b left n slot t l e = rw e refl
+pub flags_none : (b left n slot : ℕ) (t : List ℕ) (l : List ℤ) → left ≡ 0 → l ≡ sets l slot (flags_from b left n t)
+unfolding flags_from
+flags_none b left n slot t l e = rw e refl

@@ -12,84 +12,84 @@ use Rattle.std.proofs.Math.Seq.{sets}
 use Rattle.codec.specs.Pick.{pick}
 use Rattle.codec.specs.Line.{Held}
 use Rattle.codec.specs.Item.{slots}
-use Rattle.codec.specs.Laws.Sets.{sets-append}
+use Rattle.codec.proofs.Laws.Sets.{sets_append}
 use Rattle.papers.specs.Papers.{SLOTS}
-use Rattle.layout.specs.Record.{allParts, allNumbers}
+use Rattle.layout.specs.Record.{all_parts, all_numbers}
 use Rattle.shapes.specs.Shapes.{item_at}
-use Rattle.spots.specs.Spots.{spotAt, itemOn, spotOk, row_ok, itemsFrom}
-use Rattle.spots.specs.Laws.Rows.{first-drop, next-drop, items-on, row_next}
+use Rattle.spots.specs.Spots.{spot_at, item_on, spot_ok, row_ok, items_from}
+use Rattle.spots.specs.Laws.Rows.{first_drop, next_drop, items_on, row_next}
 use Rattle.sheet.specs.Items.{named_at}
-use Rattle.sheet.specs.Rows.{namedOn, namesFrom}
-use Rattle.sheet.specs.Laws.Rows.{names-on}
-use Rattle.guess.specs.Guess.{itemIn, itemLeft, row_in}
-use Rattle.taken.specs.Laws.Items.{ItemTaken, item-slots, item-blank}
+use Rattle.sheet.specs.Rows.{named_on, names_from}
+use Rattle.sheet.specs.Laws.Rows.{names_on}
+use Rattle.guess.specs.Guess.{item_in, item_left, row_in}
+use Rattle.taken.specs.Laws.Items.{ItemTaken, item_slots, item_blank}
 
 abbrev pub Row : List ℕ → ℕ → ℕ → ℕ → List ℕ → List Held
-Row ds k i left t = row_in (drop i ds) (itemsFrom k left) (namesFrom k left) t
+Row ds k i left t = row_in (drop i ds) (items_from k left) (names_from k left) t
 
 -- what `row` leaves: the parts of its items, and their numbers
 abbrev pub RowTaken : List ℕ → ℕ → ℕ → ℕ → List ℕ → List ℕ → List ℤ → List ℕ → List ℤ → Type 0
-RowTaken ds k i left t ps l qs m = (qs ≡ sets ps i (allParts (Row ds k i left t))) × (m ≡ sets l (spotAt k).1 (allNumbers (Row ds k i left t)))
+RowTaken ds k i left t ps l qs m = (qs ≡ sets ps i (all_parts (Row ds k i left t))) × (m ≡ sets l (spot_at k).1 (all_numbers (Row ds k i left t)))
 
-pub row-none : (ds : List ℕ) (k i left : ℕ) (t ps : List ℕ) (l : List ℤ) → left ≡ 0 → RowTaken ds k i left t ps l ps l
-unfolding row_in itemsFrom namesFrom allParts allNumbers
-row-none ds k i left t ps l e = (rw e refl, rw e refl)
+pub row_none : (ds : List ℕ) (k i left : ℕ) (t ps : List ℕ) (l : List ℤ) → left ≡ 0 → RowTaken ds k i left t ps l ps l
+unfolding row_in items_from names_from all_parts all_numbers
+row_none ds k i left t ps l e = (rw e refl, rw e refl)
 
-pub item_room : (k : ℕ) → T (spotOk k) → {j base : ℕ} → j ≡ (spotAt k).0 → base ≡ (spotAt k).1 → base + slots (item_at j) ≤ SLOTS
-unfolding spotOk
-item_room k ok ej eb = rw (ej, eb) (leb→le ((spotAt k).1 + slots (itemOn k)) SLOTS ok)
+pub item_room : (k : ℕ) → T (spot_ok k) → {j base : ℕ} → j ≡ (spot_at k).0 → base ≡ (spot_at k).1 → base + slots (item_at j) ≤ SLOTS
+unfolding spot_ok
+item_room k ok ej eb = rw (ej, eb) (leb→le ((spot_at k).1 + slots (item_on k)) SLOTS ok)
 
 module _ (ds : List ℕ) (k i left : ℕ) (some : left ≡ 0 → ⊥) (ok : T (row_ok k left)) (t ps : List ℕ) (l : List ℤ) {x : Bool} (ex : x ≡ eqb (get_or ds i 0) 1) where
   -- what the first item holds, and what it leaves
   abbrev held : Held
-  held = pick x (itemIn (itemOn k) (namedOn k) t) (0, replicate (slots (itemOn k)) (pos 0))
+  held = pick x (item_in (item_on k) (named_on k) t) (0, replicate (slots (item_on k)) (pos 0))
 
-  row_is : Row ds k i left t ≡ held ∷ Row ds (k + 1) (i + 1) (left - 1) (pick x (itemLeft (itemOn k) (namedOn k) t) t)
+  row_is : Row ds k i left t ≡ held ∷ Row ds (k + 1) (i + 1) (left - 1) (pick x (item_left (item_on k) (named_on k) t) t)
   unfolding row_in
   row_is =
-      ap₂ (λ its nms. row_in (drop i ds) its nms t) (items-on k left some) (names-on k left some)
-      ∙ ap₂ (λ b d. pick b (itemIn (itemOn k) (namedOn k) t) (0, replicate (slots (itemOn k)) (pos 0)) ∷ row_in d (itemsFrom (k + 1) (left - 1)) (namesFrom (k + 1) (left - 1)) (pick b (itemLeft (itemOn k) (namedOn k) t) t))
-      (ap (λ d. eqb d 1) (first-drop i ds) ∙ sym ex) (next-drop i ds)
+      ap₂ (λ its nms. row_in (drop i ds) its nms t) (items_on k left some) (names_on k left some)
+      ∙ ap₂ (λ b d. pick b (item_in (item_on k) (named_on k) t) (0, replicate (slots (item_on k)) (pos 0)) ∷ row_in d (items_from (k + 1) (left - 1)) (names_from (k + 1) (left - 1)) (pick b (item_left (item_on k) (named_on k) t) t))
+      (ap (λ d. eqb d 1) (first_drop i ds) ∙ sym ex) (next_drop i ds)
 
-  held-slots : length held.1 ≡ slots (itemOn k)
-  held-slots = go x
+  held_slots : length held.1 ≡ slots (item_on k)
+  held_slots = go x
     where
-      go : (b : Bool) → length (pick b (itemIn (itemOn k) (namedOn k) t) (0, replicate (slots (itemOn k)) (pos 0))).1 ≡ slots (itemOn k)
-      go true = item-slots (spotAt k).0 refl t
-      go false = length-replicate (slots (itemOn k)) (pos 0)
+      go : (b : Bool) → length (pick b (item_in (item_on k) (named_on k) t) (0, replicate (slots (item_on k)) (pos 0))).1 ≡ slots (item_on k)
+      go true = item_slots (spot_at k).0 refl t
+      go false = length-replicate (slots (item_on k)) (pos 0)
 
-  step : {u qs qs2 : List ℕ} {q m : List ℤ} → u ≡ pick x (itemLeft (itemOn k) (namedOn k) t) t → qs ≡ set ps i held.0 → q ≡ sets l (spotAt k).1 held.1
+  step : {u qs qs2 : List ℕ} {q m : List ℤ} → u ≡ pick x (item_left (item_on k) (named_on k) t) t → qs ≡ set ps i held.0 → q ≡ sets l (spot_at k).1 held.1
       → RowTaken ds (k + 1) (i + 1) (left - 1) u qs q qs2 m → RowTaken ds k i left t ps l qs2 m
-  unfolding allParts allNumbers row_in itemsFrom namesFrom
+  unfolding all_parts all_numbers row_in items_from names_from
   step {u} {qs} {qs2} {q} {m} eu eqs eq g = (
-    g.0 ∙ ap₂ (λ y j. sets y j (allParts (rest u))) eqs (add-one i) ∙ ap (λ v. sets (set ps i held.0) (suc i) (allParts (rest v))) eu ∙ ap (λ r. sets ps i (allParts r)) (sym row_is),
-    g.1 ∙ next ∙ ap (λ y. sets y ((spotAt k).1 + length held.1) (allNumbers (rest u))) eq ∙ sym (sets-append l (spotAt k).1 held.1 (allNumbers (rest u)))
-        ∙ ap (λ v. sets l (spotAt k).1 (held.1 ++ allNumbers (rest v))) eu ∙ ap (λ r. sets l (spotAt k).1 (allNumbers r)) (sym row_is),
+    g.0 ∙ ap₂ (λ y j. sets y j (all_parts (rest u))) eqs (add-one i) ∙ ap (λ v. sets (set ps i held.0) (suc i) (all_parts (rest v))) eu ∙ ap (λ r. sets ps i (all_parts r)) (sym row_is),
+    g.1 ∙ next ∙ ap (λ y. sets y ((spot_at k).1 + length held.1) (all_numbers (rest u))) eq ∙ sym (sets_append l (spot_at k).1 held.1 (all_numbers (rest u)))
+        ∙ ap (λ v. sets l (spot_at k).1 (held.1 ++ all_numbers (rest v))) eu ∙ ap (λ r. sets l (spot_at k).1 (all_numbers r)) (sym row_is),
   )
     where
       rest : List ℕ → List Held
       rest v = Row ds (k + 1) (i + 1) (left - 1) v
 
       -- where nothing follows, the place does not matter
-      next : sets q (spotAt (k + 1)).1 (allNumbers (rest u)) ≡ sets q ((spotAt k).1 + length held.1) (allNumbers (rest u))
+      next : sets q (spot_at (k + 1)).1 (all_numbers (rest u)) ≡ sets q ((spot_at k).1 + length held.1) (all_numbers (rest u))
       next = go (eqb (left - 1) 0) refl
         where
-          go : (b : Bool) → eqb (left - 1) 0 ≡ b → sets q (spotAt (k + 1)).1 (allNumbers (rest u)) ≡ sets q ((spotAt k).1 + length held.1) (allNumbers (rest u))
+          go : (b : Bool) → eqb (left - 1) 0 ≡ b → sets q (spot_at (k + 1)).1 (all_numbers (rest u)) ≡ sets q ((spot_at k).1 + length held.1) (all_numbers (rest u))
           go true e =
               let z : rest u ≡ [] = ap (λ n. Row ds (k + 1) (i + 1) n u) (eqb-true (left - 1) 0 e) in
-              ap (λ r. sets q (spotAt (k + 1)).1 (allNumbers r)) z ∙ ap (λ r. sets q ((spotAt k).1 + length held.1) (allNumbers r)) (sym z)
-          go false e = ap (λ j. sets q j (allNumbers (rest u))) (row_next k left some ok (eqb-false (left - 1) 0 e) ∙ ap ((spotAt k).1 +◌) (sym held-slots))
+              ap (λ r. sets q (spot_at (k + 1)).1 (all_numbers r)) z ∙ ap (λ r. sets q ((spot_at k).1 + length held.1) (all_numbers r)) (sym z)
+          go false e = ap (λ j. sets q j (all_numbers (rest u))) (row_next k left some ok (eqb-false (left - 1) 0 e) ∙ ap ((spot_at k).1 +◌) (sym held_slots))
 
-  module _ {j base : ℕ} (ej : j ≡ (spotAt k).0) (eb : base ≡ (spotAt k).1) {qs qs2 : List ℕ} {q m : List ℤ} where
-    pub row-there : x ≡ true → {u : List ℕ} {p : ℕ} → p ≡ (itemIn (item_at j) (named_at j) t).0 → qs ≡ set ps i p → ItemTaken j base t l u q
+  module _ {j base : ℕ} (ej : j ≡ (spot_at k).0) (eb : base ≡ (spot_at k).1) {qs qs2 : List ℕ} {q m : List ℤ} where
+    pub row_there : x ≡ true → {u : List ℕ} {p : ℕ} → p ≡ (item_in (item_at j) (named_at j) t).0 → qs ≡ set ps i p → ItemTaken j base t l u q
         → RowTaken ds (k + 1) (i + 1) (left - 1) u qs q qs2 m → RowTaken ds k i left t ps l qs2 m
-    row-there e ep eqs g r =
-        step (g.0 ∙ ap (λ n. itemLeft (item_at n) (named_at n) t) ej ∙ ap (λ b. pick b (itemLeft (itemOn k) (namedOn k) t) t) (sym e))
-        (eqs ∙ ap (set ps i) (ep ∙ ap (λ n. (itemIn (item_at n) (named_at n) t).0) ej ∙ ap (λ b. (pick b (itemIn (itemOn k) (namedOn k) t) (0, replicate (slots (itemOn k)) (pos 0))).0) (sym e)))
-        (g.1 ∙ ap₂ (λ n y. sets l n y) eb (ap (λ n. (itemIn (item_at n) (named_at n) t).1) ej ∙ ap (λ b. (pick b (itemIn (itemOn k) (namedOn k) t) (0, replicate (slots (itemOn k)) (pos 0))).1) (sym e))) r
+    row_there e ep eqs g r =
+        step (g.0 ∙ ap (λ n. item_left (item_at n) (named_at n) t) ej ∙ ap (λ b. pick b (item_left (item_on k) (named_on k) t) t) (sym e))
+        (eqs ∙ ap (set ps i) (ep ∙ ap (λ n. (item_in (item_at n) (named_at n) t).0) ej ∙ ap (λ b. (pick b (item_in (item_on k) (named_on k) t) (0, replicate (slots (item_on k)) (pos 0))).0) (sym e)))
+        (g.1 ∙ ap₂ (λ n y. sets l n y) eb (ap (λ n. (item_in (item_at n) (named_at n) t).1) ej ∙ ap (λ b. (pick b (item_in (item_on k) (named_on k) t) (0, replicate (slots (item_on k)) (pos 0))).1) (sym e))) r
 
-    pub row-absent : x ≡ false → {u : List ℕ} → qs ≡ set ps i 0 → ItemTaken j base [] l u q → RowTaken ds (k + 1) (i + 1) (left - 1) t qs q qs2 m → RowTaken ds k i left t ps l qs2 m
-    row-absent e eqs g r =
-        step (ap (λ b. pick b (itemLeft (itemOn k) (namedOn k) t) t) (sym e))
-        (eqs ∙ ap (λ b. set ps i (pick b (itemIn (itemOn k) (namedOn k) t) (0, replicate (slots (itemOn k)) (pos 0))).0) (sym e))
-        (g.1 ∙ ap₂ (λ n y. sets l n y) eb (item-blank j refl ∙ ap (λ n. replicate (slots (item_at n)) (pos 0)) ej ∙ ap (λ b. (pick b (itemIn (itemOn k) (namedOn k) t) (0, replicate (slots (itemOn k)) (pos 0))).1) (sym e))) r
+    pub row_absent : x ≡ false → {u : List ℕ} → qs ≡ set ps i 0 → ItemTaken j base [] l u q → RowTaken ds (k + 1) (i + 1) (left - 1) t qs q qs2 m → RowTaken ds k i left t ps l qs2 m
+    row_absent e eqs g r =
+        step (ap (λ b. pick b (item_left (item_on k) (named_on k) t) t) (sym e))
+        (eqs ∙ ap (λ b. set ps i (pick b (item_in (item_on k) (named_on k) t) (0, replicate (slots (item_on k)) (pos 0))).0) (sym e))
+        (g.1 ∙ ap₂ (λ n y. sets l n y) eb (item_blank j refl ∙ ap (λ n. replicate (slots (item_at n)) (pos 0)) ej ∙ ap (λ b. (pick b (item_in (item_on k) (named_on k) t) (0, replicate (slots (item_on k)) (pos 0))).1) (sym e))) r

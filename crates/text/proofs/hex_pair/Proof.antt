@@ -1,6 +1,6 @@
 -- `text::hex_pair` meets its contract: one digit behind the other. Assumes nothing.
 use borrow.Author.Rules.{rules}
-use Rattle.text.specs.Laws.Hex.{types-pair}
+use Rattle.text.specs.Laws.Hex.{types_pair}
 use Rattle.text.proofs.hex_pair.Statement.{statement}
 use Rattle.text.proofs.hex_pair.Tie as tie
 
@@ -9,7 +9,7 @@ returns c =
     let e = c.before.before in
     let o = e.before in
     let d = o.before.before in
-    types-pair d.before.args.o d.hex-digit.ensures e.hex-digit2.ensures o.octet.ensures c.octet2.ensures
+    types_pair d.before.args.o d.hex-digit.ensures e.hex-digit2.ensures o.octet.ensures c.octet2.ensures
 
-pub hex-pair-spec : {M : Type 1} → statement M
-hex-pair-spec = tie.close (tie.spec (λ c κs. search rules) (λ c κs. tt) (λ c κs. search rules) (λ c κs. tt) returns)
+pub hex_pair_spec : {M : Type 1} → statement M
+hex_pair_spec = tie.close (tie.spec (λ c κs. search rules) (λ c κs. tt) (λ c κs. search rules) (λ c κs. tt) returns)

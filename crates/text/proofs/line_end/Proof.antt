@@ -5,5 +5,5 @@ use Rattle.text.proofs.line_end.Tie as tie
 returns : tie.Need-returns
 returns c = c.octet.ensures
 
-pub line-end-spec : {M : Type 1} → statement M
-line-end-spec = tie.close (tie.spec (λ c κs. tt) returns)
+pub line_end_spec : {M : Type 1} → statement M
+line_end_spec = tie.close (tie.spec (λ c κs. tt) returns)

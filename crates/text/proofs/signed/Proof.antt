@@ -35,13 +35,13 @@ flip c = complement c.before.args.z c.before.ranges.z (below c)
 above : (c : tie.Else1) → lt_z c.before.args.z (pos 0) ≡ false
 above c = rw (to_z-of_z c.before.ranges.z) at c.if1.false
 
-cast-decimal : tie.Need-overflow-cast-decimal
-cast-decimal c =
+cast_decimal : tie.Need-overflow-cast-decimal
+cast_decimal c =
     let i = c.before.before in
     rw (flip i) (tt, record { fits = omega (arith, i.before.ranges.z.sfits) })
 
-add-decimal : tie.Need-overflow-add-decimal
-add-decimal c =
+add_decimal : tie.Need-overflow-add-decimal
+add_decimal c =
     let i = c.before.before in
     rw (flip i) (record { fits = omega (arith, i.before.ranges.z.sfits) })
 
@@ -51,16 +51,16 @@ returns c =
     let i = o.before.before in
     signed_below i.before.args.z (below i) o.octet.ensures (rw (flip i) at c.decimal.ensures)
 
-cast-decimal-2 : tie.Need-overflow-cast-decimal-2
-cast-decimal-2 c =
+cast_decimal_2 : tie.Need-overflow-cast-decimal-2
+cast_decimal_2 c =
     let z = c.before.args.z in
     let f = c.before.ranges.z in
     rw (to_z-of_z f) (not_negative z (above c), Fits-nat_abs {w = w64} {w' = w64} {z = z} tt f)
 
-returns-2 : tie.Need-returns-2
-returns-2 c =
+returns_2 : tie.Need-returns-2
+returns_2 c =
     let i = c.before.before in
     signed_above i.before.args.z (above i) (rw (to_z-of_z i.before.ranges.z) at c.decimal2.ensures)
 
-pub signed-spec : {M : Type 1} → statement M
-signed-spec = tie.close (tie.spec (λ c κs. tt) cast-decimal add-decimal (λ c κs. tt) returns cast-decimal-2 (λ c κs. tt) returns-2)
+pub signed_spec : {M : Type 1} → statement M
+signed_spec = tie.close (tie.spec (λ c κs. tt) cast_decimal add_decimal (λ c κs. tt) returns cast_decimal_2 (λ c κs. tt) returns_2)

@@ -1,7 +1,7 @@
 -- `text::signed_pair` meets its contract: key, =, number with its sign and line feed stand one behind the other. Assumes nothing.
 use mir.Facts.{to_z-of_z}
-use Rattle.scope.specs.Sheet.{signedDecimal}
-use Rattle.text.specs.Laws.Typing.{types-line}
+use Rattle.scope.specs.Sheet.{signed_decimal}
+use Rattle.text.specs.Laws.Typing.{types_line}
 use Rattle.text.proofs.signed_pair.Statement.{statement}
 use Rattle.text.proofs.signed_pair.Tie as tie
 
@@ -12,7 +12,7 @@ returns c =
     let w = o.before.before in
     let e = w.before.before.before in
     let a = e.args in
-    types-line a.key.now (signedDecimal a.z) w.word.ensures o.octet.ensures (rw (to_z-of_z e.ranges.z) at d.signed.ensures) c.line-end.ensures
+    types_line a.key.now (signed_decimal a.z) w.word.ensures o.octet.ensures (rw (to_z-of_z e.ranges.z) at d.signed.ensures) c.line-end.ensures
 
-pub signed-pair-spec : {M : Type 1} → statement M
-signed-pair-spec = tie.close (tie.spec (λ c κs. tt) (λ c κs. tt) (λ c κs. tt) (λ c κs. tt) returns)
+pub signed_pair_spec : {M : Type 1} → statement M
+signed_pair_spec = tie.close (tie.spec (λ c κs. tt) (λ c κs. tt) (λ c κs. tt) (λ c κs. tt) returns)

@@ -7,8 +7,8 @@ use lib.ListN.{length, length-replicate}
 use lib.Seq.{length-take-le}
 use mir.Facts.{Fits-of_lt}
 use Rattle.layout.specs.Answer.{length_of}
-use Rattle.text.specs.Laws.Typing.{types-within}
-use Rattle.inputs.specs.Inputs.{octets-within}
+use Rattle.text.specs.Laws.Typing.{types_within}
+use Rattle.inputs.specs.Inputs.{octets_within}
 use Rattle.unlisting.proofs.main.Statement.{statement}
 use Rattle.unlisting.proofs.main.Tie as tie
 
@@ -17,28 +17,28 @@ ends : (c : tie.After-answer) → c.answer.given.0.0 < length c.before.before.be
 unfolding length_of
 ends c = let u = c.before.before.before in omega (arith, ap length_of c.answer.given.1, u.unlisted.ensures.within)
 
-array-share-prefix-input : tie.Need-array-share-prefix-input
-array-share-prefix-input c = let n = c.before in octets-within n.n.given.1 n.before.before.before.read-in.ensures
+array_share_prefix_input : tie.Need-array-share-prefix-input
+array_share_prefix_input c = let n = c.before in octets_within n.n.given.1 n.before.before.before.read-in.ensures
 
-slice-aggregate-unlisted : tie.Need-slice-aggregate-unlisted
-slice-aggregate-unlisted c = let i = c.before in sym (length-take-le _ _ (array-share-prefix-input i))
+slice_aggregate_unlisted : tie.Need-slice-aggregate-unlisted
+slice_aggregate_unlisted c = let i = c.before in sym (length-take-le _ _ (array_share_prefix_input i))
 
-add-end : tie.Need-overflow-add-end
+add_end : tie.Need-overflow-add-end
 unfolding length_of
-add-end c = let a = c.before in Fits-of_lt (omega (arith, ap length_of a.answer.given.1, a.before.before.before.unlisted.ensures.few))
+add_end c = let a = c.before in Fits-of_lt (omega (arith, ap length_of a.answer.given.1, a.before.before.before.unlisted.ensures.few))
 
-array-share-prefix-output : tie.Need-array-share-prefix-output
-array-share-prefix-output c = omega (arith, ends c.before)
+array_share_prefix_output : tie.Need-array-share-prefix-output
+array_share_prefix_output c = omega (arith, ends c.before)
 
-slice-aggregate-write-all-3 : tie.Need-slice-aggregate-write-all-3
-slice-aggregate-write-all-3 c = let o = c.before in sym (length-take-le _ _ (array-share-prefix-output o))
+slice_aggregate_write_all_3 : tie.Need-slice-aggregate-write-all-3
+slice_aggregate_write_all_3 c = let o = c.before in sym (length-take-le _ _ (array_share_prefix_output o))
 
 -- and so do the lines of a refusal
-array-share-prefix-lines : tie.Need-array-share-prefix-lines
-array-share-prefix-lines c = types-within c.refusal.ensures (length-replicate {A = ℕ} 4_096 0) (omega arith)
+array_share_prefix_lines : tie.Need-array-share-prefix-lines
+array_share_prefix_lines c = types_within c.refusal.ensures (length-replicate {A = ℕ} 4_096 0) (omega arith)
 
-slice-aggregate-write-all-2 : tie.Need-slice-aggregate-write-all-2
-slice-aggregate-write-all-2 c = let l = c.before in sym (length-take-le l.refusal.result l.refusal.new.1.0 (array-share-prefix-lines l))
+slice_aggregate_write_all_2 : tie.Need-slice-aggregate-write-all-2
+slice_aggregate_write_all_2 c = let l = c.before in sym (length-take-le l.refusal.result l.refusal.new.1.0 (array_share_prefix_lines l))
 
 pub main_spec : {M : Type 1} → statement M
 main_spec =
@@ -51,20 +51,20 @@ main_spec =
     (λ c. search rules)
     (λ c κs. tt)
     (λ c. tt)
-    array-share-prefix-input
-    slice-aggregate-unlisted
+    array_share_prefix_input
+    slice_aggregate_unlisted
     (λ c. search rules)
     (λ c κs. search rules)
     (λ c. search rules)
     (λ c. search rules)
     (λ c κs. tt)
-    array-share-prefix-lines
-    slice-aggregate-write-all-2
+    array_share_prefix_lines
+    slice_aggregate_write_all_2
     (λ c κs. tt)
     (λ c. tt)
-    add-end
-    array-share-prefix-output
-    slice-aggregate-write-all-3
+    add_end
+    array_share_prefix_output
+    slice_aggregate_write_all_3
     (λ c κs. tt)
     (λ c. search rules)
     (λ c κs. tt)

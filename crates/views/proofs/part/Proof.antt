@@ -19,21 +19,21 @@ returns c =
     let f = t.before.before.args.field in
     (sym (ap (part_of f.now) t.enum_told.given.1), sym (ap (part_at f.ref_ptr) t.enum_told.given.1))
 
-add-result : tie.Need-overflow-add-result
-add-result c =
+add_result : tie.Need-overflow-add-result
+add_result c =
     let v = c.before in
     let h = v.before.before.requires v.v.given.0.0 v.v.given.0.1.0 v.v.given.1 in
     omega (arith, h)
 
-part-result-end : tie.Need-slice-bounds-result-end
-part-result-end c =
+part_result_end : tie.Need-slice-bounds-result-end
+part_result_end c =
     let v = c.before in
     let h = v.before.before.requires v.v.given.0.0 v.v.given.0.1.0 v.v.given.1 in
     omega (arith, h)
 
-returns-2 : tie.Need-returns-2
+returns_2 : tie.Need-returns-2
 unfolding part_of part_at
-returns-2 c =
+returns_2 c =
     let v = c.before.before in
     let s = v.before.before in (
       ap (λ k. take k (drop v.v.given.0.0 s.args.field.now)) (back v.v.given.0.0 v.v.given.0.1.0)
@@ -41,5 +41,5 @@ returns-2 c =
       sym (ap (part_at s.args.field.ref_ptr) v.v.given.1),
     )
 
-pub part-spec : {M : Type 1} → statement M
-part-spec = tie.close (tie.spec (λ c. search rules) (λ c. search rules) (λ c. search rules) returns add-result (λ c. search rules) (λ c. search rules) part-result-end returns-2)
+pub part_spec : {M : Type 1} → statement M
+part_spec = tie.close (tie.spec (λ c. search rules) (λ c. search rules) (λ c. search rules) returns add_result (λ c. search rules) (λ c. search rules) part_result_end returns_2)

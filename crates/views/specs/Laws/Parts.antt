@@ -6,23 +6,23 @@ use Rattle.std.proofs.Common.{◌∙◌}
 use Rattle.layout.specs.declared.Which.{Which}
 use Rattle.layout.specs.declared.Which.TheVariants.{Neither, Base, Correction}
 use Rattle.layout.specs.declared.Choice.{Choice}
-use Rattle.views.specs.Parts.{part_at, sideAt, chosenAt}
+use Rattle.views.specs.Parts.{part_at, side_at, chosen_at}
 
 -- ---- the ways out of `choose`
 
 module _ (b c : ℕ × ℕ) {x y : Choice} (e : x ≡ y) where
-  at_side : {w : Which} → x.which ≡ w → sideAt b c w x.view ≡ chosenAt b c y
-  unfolding chosenAt
-  at_side h = sym (ap (λ w. sideAt b c w x.view) h) ∙ ap (chosenAt b c) e
+  at_side : {w : Which} → x.which ≡ w → side_at b c w x.view ≡ chosen_at b c y
+  unfolding chosen_at
+  at_side h = sym (ap (λ w. side_at b c w x.view) h) ∙ ap (chosen_at b c) e
 
-  pub at-neither : x.which ≡ Neither → b ≡ chosenAt b c y
-  unfolding sideAt
-  at-neither h = at_side h
+  pub at_neither : x.which ≡ Neither → b ≡ chosen_at b c y
+  unfolding side_at
+  at_neither h = at_side h
 
-  pub at_base : x.which ≡ Base → part_at b x.view ≡ chosenAt b c y
-  unfolding sideAt
+  pub at_base : x.which ≡ Base → part_at b x.view ≡ chosen_at b c y
+  unfolding side_at
   at_base h = at_side h
 
-  pub at-correction : x.which ≡ Correction → part_at c x.view ≡ chosenAt b c y
-  unfolding sideAt
-  at-correction h = at_side h
+  pub at_correction : x.which ≡ Correction → part_at c x.view ≡ chosen_at b c y
+  unfolding side_at
+  at_correction h = at_side h

@@ -12,39 +12,39 @@ use Rattle.walk.proofs.behind.Reads as behind-reads
 use Rattle.walk.proofs.+word.{statement}
 use Rattle.walk.proofs.+word.Tie.{close}
 
-abbrev μ-word : Measures 1 word-kinds.ps ℕ
-μ-word κs a = a.1.0
+abbrev μ_word : Measures 1 word-kinds.ps ℕ
+μ_word κs a = a.1.0
 
 abbrev word_at : ℕ → In 1 word-kinds.ps
-word_at t = and 1 word-kinds.ps (is 1 word-kinds.ps μ-word t) word.Pre
+word_at t = and 1 word-kinds.ps (is 1 word-kinds.ps μ_word t) word.Pre
 
 abbrev word_below : ℕ → In 1 word-kinds.ps
-word_below t = and 1 word-kinds.ps (falls 1 word-kinds.ps ◌<◌ μ-word t) word.Pre
+word_below t = and 1 word-kinds.ps (falls 1 word-kinds.ps ◌<◌ μ_word t) word.Pre
 
 -- what is known of the functions that it calls
 abbrev calls : ℕ → word-lts.Claims
 calls t = (before-reads.Asked, before-reads.Learnt, behind-reads.Asked, behind-reads.Learnt, word_below t, word.Post)
 
-word-before-requires : (t : ℕ) → word-lts.Need-before-requires (calls t) (word_at t) word.Post
-word-before-requires t c κs = tt
+word_before_requires : (t : ℕ) → word-lts.Need-before-requires (calls t) (word_at t) word.Post
+word_before_requires t c κs = tt
 
-word-returns : (t : ℕ) → word-lts.Need-returns (calls t) (word_at t) word.Post
-word-returns t c =
+word_returns : (t : ℕ) → word-lts.Need-returns (calls t) (word_at t) word.Post
+word_returns t c =
     let i = c.before in
     let a = i.before.before.args in
     word_first a.t.now a.k i.if1.true c.before2.ensures
 
-word-behind-requires : (t : ℕ) → word-lts.Need-behind-requires (calls t) (word_at t) word.Post
-word-behind-requires t c κs = tt
+word_behind_requires : (t : ℕ) → word-lts.Need-behind-requires (calls t) (word_at t) word.Post
+word_behind_requires t c κs = tt
 
-word-sub-word : (t : ℕ) → word-lts.Need-overflow-sub-word (calls t) (word_at t) word.Post
-word-sub-word t c = omega arith
+word_sub_word : (t : ℕ) → word-lts.Need-overflow-sub-word (calls t) (word_at t) word.Post
+word_sub_word t c = omega arith
 
-word-word-requires : (t : ℕ) → word-lts.Need-word-requires (calls t) (word_at t) word.Post
-word-word-requires t c κs = (omega arith, tt)
+word_word_requires : (t : ℕ) → word-lts.Need-word-requires (calls t) (word_at t) word.Post
+word_word_requires t c κs = (omega arith, tt)
 
-word-returns-2 : (t : ℕ) → word-lts.Need-returns-2 (calls t) (word_at t) word.Post
-word-returns-2 t c =
+word_returns_2 : (t : ℕ) → word-lts.Need-returns-2 (calls t) (word_at t) word.Post
+word_returns_2 t c =
     let b = c.before in
     let i = b.before in
     let a = i.before.before.args in
@@ -52,4 +52,4 @@ word-returns-2 t c =
 
 pub +word-spec : {M : Type 1} → statement M
 +word-spec =
-    close μ-word λ t. word-lts.spec (calls t) (word_at t) word.Post (word-before-requires t) (word-returns t) (word-behind-requires t) (word-sub-word t) (word-word-requires t) (word-returns-2 t)
+    close μ_word λ t. word-lts.spec (calls t) (word_at t) word.Post (word_before_requires t) (word_returns t) (word_behind_requires t) (word_sub_word t) (word_word_requires t) (word_returns_2 t)

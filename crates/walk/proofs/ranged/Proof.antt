@@ -3,21 +3,21 @@ use mathlib.Core.Path.{◌≡◌, ap, ◌∙◌}
 use borrow.Author.Rules.{rules, sfits_of}
 use mir.Syntax.{w32}
 use mir.Facts.{to_z-of_z}
-use Rattle.words.specs.Numbers.{wholeIn}
-use Rattle.guess.specs.Guess.{valueIn}
-use Rattle.walk.specs.Laws.Ranges.{ranged-there, ranged-high, ranged-low}
+use Rattle.words.specs.Numbers.{whole_in}
+use Rattle.guess.specs.Guess.{value_in}
+use Rattle.walk.specs.Laws.Ranges.{ranged_there, ranged_high, ranged_low}
 use Rattle.walk.proofs.ranged.Statement.{statement}
 use Rattle.walk.proofs.ranged.Tie as tie
 
 -- the number that the line's value writes
-told : (n : tie.After-whole) → n.whole.result ≡ wholeIn (valueIn n.before.before.before.args.t.now)
-told n = n.whole.ensures ∙ ap wholeIn n.before.value.ensures
+told : (n : tie.After-whole) → n.whole.result ≡ whole_in (value_in n.before.before.before.args.t.now)
+told n = n.whole.ensures ∙ ap whole_in n.before.value.ensures
 
-value-requires : tie.Need-value-requires
-value-requires c κs = search rules
+value_requires : tie.Need-value-requires
+value_requires c κs = search rules
 
-whole-requires : tie.Need-whole-requires
-whole-requires c κs = search rules
+whole_requires : tie.Need-whole-requires
+whole_requires c κs = search rules
 
 returns : tie.Need-returns
 returns c =
@@ -25,21 +25,21 @@ returns c =
     let a = n.before.before.before in
     let fn = sfits_of {w = w32} {z = n.whole.result} n.whole.type-inv in
     rw (to_z-of_z fn)
-    (ranged-there a.args.lo a.args.hi a.args.t.now (told n) (rw (to_z-of_z a.ranges.lo, to_z-of_z fn) at c.before.if1.true) (rw (to_z-of_z fn, to_z-of_z a.ranges.hi) at c.if2.true))
+    (ranged_there a.args.lo a.args.hi a.args.t.now (told n) (rw (to_z-of_z a.ranges.lo, to_z-of_z fn) at c.before.if1.true) (rw (to_z-of_z fn, to_z-of_z a.ranges.hi) at c.if2.true))
 
-returns-2 : tie.Need-returns-2
-returns-2 c =
+returns_2 : tie.Need-returns-2
+returns_2 c =
     let n = c.before.before in
     let a = n.before.before.before in
     let fn = sfits_of {w = w32} {z = n.whole.result} n.whole.type-inv in
-    ranged-high a.args.lo a.args.hi a.args.t.now (told n) (rw (to_z-of_z a.ranges.lo, to_z-of_z fn) at c.before.if1.true) (rw (to_z-of_z fn, to_z-of_z a.ranges.hi) at c.if2.false)
+    ranged_high a.args.lo a.args.hi a.args.t.now (told n) (rw (to_z-of_z a.ranges.lo, to_z-of_z fn) at c.before.if1.true) (rw (to_z-of_z fn, to_z-of_z a.ranges.hi) at c.if2.false)
 
-returns-3 : tie.Need-returns-3
-returns-3 c =
+returns_3 : tie.Need-returns-3
+returns_3 c =
     let n = c.before in
     let a = n.before.before.before in
     let fn = sfits_of {w = w32} {z = n.whole.result} n.whole.type-inv in
-    ranged-low a.args.lo a.args.hi a.args.t.now (told n) (rw (to_z-of_z a.ranges.lo, to_z-of_z fn) at c.if1.false)
+    ranged_low a.args.lo a.args.hi a.args.t.now (told n) (rw (to_z-of_z a.ranges.lo, to_z-of_z fn) at c.if1.false)
 
-pub ranged-spec : {M : Type 1} → statement M
-ranged-spec = tie.close (tie.spec value-requires whole-requires returns returns-2 returns-3)
+pub ranged_spec : {M : Type 1} → statement M
+ranged_spec = tie.close (tie.spec value_requires whole_requires returns returns_2 returns_3)

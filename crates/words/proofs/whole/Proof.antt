@@ -6,27 +6,27 @@ use lib.Signed.{lt_z}
 use mir.Syntax.{w32, w64}
 use mir.Val.{SFits, to_z, of_z}
 use mir.Facts.{to_z-of_z}
-use Rattle.words.specs.Laws.Numbers.{whole-past, whole_here, whole-width}
+use Rattle.words.specs.Laws.Numbers.{whole_past, whole_here, whole_width}
 use borrow.Author.Rules.{sfits_of}
 use Rattle.words.proofs.whole.Statement.{statement}
 use Rattle.words.proofs.whole.Tie as tie
 
 returns : tie.Need-returns
-returns c = whole-past c.before.before.before.args.word.now c.before.signed.ensures (rw (to_z-of_z (sfits_of c.before.signed.type-inv)) at c.if1.true)
+returns c = whole_past c.before.before.before.args.word.now c.before.signed.ensures (rw (to_z-of_z (sfits_of c.before.signed.type-inv)) at c.if1.true)
 
 kept : (c : tie.Else1) → lt_z (pos 2_147_483_647) c.before.signed.result ≡ false
 kept c = rw (to_z-of_z (sfits_of c.before.signed.type-inv)) at c.if1.false
 
 narrow : (c : tie.Else1) → SFits w32 c.before.signed.result
-narrow c = record { sfits = whole-width c.before.before.before.args.word.now c.before.signed.ensures (kept c) }
+narrow c = record { sfits = whole_width c.before.before.before.args.word.now c.before.signed.ensures (kept c) }
 
-cast-result : tie.Need-overflow-cast-result
-cast-result c = rw (to_z-of_z (sfits_of c.before.signed.type-inv)) (narrow c)
+cast_result : tie.Need-overflow-cast-result
+cast_result c = rw (to_z-of_z (sfits_of c.before.signed.type-inv)) (narrow c)
 
-returns-2 : tie.Need-returns-2
-returns-2 c =
+returns_2 : tie.Need-returns-2
+returns_2 c =
     ap (λ z. to_z w32 (of_z w32 z)) (to_z-of_z {w = w64} {z = c.before.signed.result} (sfits_of c.before.signed.type-inv)) ∙ to_z-of_z {w = w32} {z = c.before.signed.result} (narrow c)
     ∙ whole_here c.before.before.before.args.word.now c.before.signed.ensures (kept c)
 
-pub whole-spec : {M : Type 1} → statement M
-whole-spec = tie.close (tie.spec (λ c κs. tt) returns cast-result returns-2)
+pub whole_spec : {M : Type 1} → statement M
+whole_spec = tie.close (tie.spec (λ c κs. tt) returns cast_result returns_2)

@@ -7,7 +7,7 @@ use lib.ListN.{drop}
 use mir.Facts.{Fits-of_lt}
 use Rattle.codec.specs.Field.{flags}
 use Rattle.spots.specs.Laws.Rows.{row_first}
-use Rattle.writer.specs.Laws.Rows.{row-end, row_on}
+use Rattle.writer.specs.Laws.Rows.{row_end, row_on}
 use borrow.Fn.Kinds.{In}
 use borrow.Fn.PlainCycle.{Measures, is, falls, and}
 use Rattle.writer.proofs.row.Reads as row
@@ -18,14 +18,14 @@ use Rattle.writer.proofs.place.Reads as place-reads
 use Rattle.writer.proofs.+row.{statement}
 use Rattle.writer.proofs.+row.Tie.{close}
 
-abbrev μ-row : Measures 3 row-kinds.ps ℕ
-μ-row κs a = a.1.1.1.1.1.0
+abbrev μ_row : Measures 3 row-kinds.ps ℕ
+μ_row κs a = a.1.1.1.1.1.0
 
 abbrev row_at : ℕ → In 3 row-kinds.ps
-row_at t = and 3 row-kinds.ps (is 3 row-kinds.ps μ-row t) row.Pre
+row_at t = and 3 row-kinds.ps (is 3 row-kinds.ps μ_row t) row.Pre
 
 abbrev row_below : ℕ → In 3 row-kinds.ps
-row_below t = and 3 row-kinds.ps (falls 3 row-kinds.ps ◌<◌ μ-row t) row.Pre
+row_below t = and 3 row-kinds.ps (falls 3 row-kinds.ps ◌<◌ μ_row t) row.Pre
 
 -- what is known of the functions that it calls
 abbrev calls : ℕ → row-lts.Claims
@@ -34,40 +34,40 @@ calls t = (present-reads.Asked, present-reads.Learnt, place-reads.Asked, place-r
 row-returns : (t : ℕ) → row-lts.Need-returns (calls t) (row_at t) row.Post
 row-returns t c =
     let a = c.before.args in
-    row-end (drop a.i (flags a.items)) a.parts.now a.numbers.now a.k a.i a.left c.if1.true a.octets.now a.at
+    row_end (drop a.i (flags a.items)) a.parts.now a.numbers.now a.k a.i a.left c.if1.true a.octets.now a.at
 
-row-present-requires : (t : ℕ) → row-lts.Need-present-requires (calls t) (row_at t) row.Post
-row-present-requires t c κs = search rules
+row-present_requires : (t : ℕ) → row-lts.Need-present-requires (calls t) (row_at t) row.Post
+row-present_requires t c κs = search rules
 
-row-element-copy-out-place : (t : ℕ) → row-lts.Need-element-copy-out-place (calls t) (row_at t) row.Post
-row-element-copy-out-place t c = let g = c.before.before.requires.1 in omega (arith, g, c.before.if1.false)
+row_element_copy_out_place : (t : ℕ) → row-lts.Need-element-copy-out-place (calls t) (row_at t) row.Post
+row_element_copy_out_place t c = let g = c.before.before.requires.1 in omega (arith, g, c.before.if1.false)
 
-row-place-requires : (t : ℕ) → row-lts.Need-place-requires (calls t) (row_at t) row.Post
-row-place-requires t c κs =
+row_place_requires : (t : ℕ) → row-lts.Need-place-requires (calls t) (row_at t) row.Post
+row_place_requires t c κs =
     let e = c.before.before.before in
     let s = e.before in
     let a = s.args in
     (row_first a.k a.left e.if1.false s.requires.1.2).0
 
-row-add-row : (t : ℕ) → row-lts.Need-overflow-add-row (calls t) (row_at t) row.Post
-row-add-row t c = let g = c.before.before.before.before.before.requires.1 in Fits-of_lt (omega (arith, g))
+row_add_row : (t : ℕ) → row-lts.Need-overflow-add-row (calls t) (row_at t) row.Post
+row_add_row t c = let g = c.before.before.before.before.before.requires.1 in Fits-of_lt (omega (arith, g))
 
-row-add-row-2 : (t : ℕ) → row-lts.Need-overflow-add-row-2 (calls t) (row_at t) row.Post
-row-add-row-2 t c = let g = c.before.before.before.before.before.requires.1 in Fits-of_lt (omega (arith, g))
+row_add_row_2 : (t : ℕ) → row-lts.Need-overflow-add-row-2 (calls t) (row_at t) row.Post
+row_add_row_2 t c = let g = c.before.before.before.before.before.requires.1 in Fits-of_lt (omega (arith, g))
 
 row-sub-row : (t : ℕ) → row-lts.Need-overflow-sub-row (calls t) (row_at t) row.Post
 row-sub-row t c = omega arith
 
-row-row-requires : (t : ℕ) → row-lts.Need-row-requires (calls t) (row_at t) row.Post
-row-row-requires t c κs =
+row-row_requires : (t : ℕ) → row-lts.Need-row-requires (calls t) (row_at t) row.Post
+row-row_requires t c κs =
     let e = c.before.before.before.before.before in
     let s = e.before in
     let a = s.args in
     let g = s.requires.1 in
     (omega (arith, s.requires.0, e.if1.false), (omega (arith, g, e.if1.false), omega (arith, g, e.if1.false), (row_first a.k a.left e.if1.false g.2).1))
 
-row-returns-2 : (t : ℕ) → row-lts.Need-returns-2 (calls t) (row_at t) row.Post
-row-returns-2 t c =
+row-returns_2 : (t : ℕ) → row-lts.Need-returns-2 (calls t) (row_at t) row.Post
+row-returns_2 t c =
     let p = c.before.before in
     let h = p.before.before.before in
     let e = h.before in
@@ -76,15 +76,15 @@ row-returns-2 t c =
     row_on (flags a.items) a.parts.now a.numbers.now a.k a.i a.left e.if1.false s.requires.1.2 h.present.ensures refl p.place.ensures c.row.ensures
 
 pub +row-spec : {M : Type 1} → statement M
-+row-spec = close μ-row λ t. row-lts.spec (calls t)
++row-spec = close μ_row λ t. row-lts.spec (calls t)
     (row_at t)
     row.Post
     (row-returns t)
-    (row-present-requires t)
-    (row-element-copy-out-place t)
-    (row-place-requires t)
-    (row-add-row t)
-    (row-add-row-2 t)
+    (row-present_requires t)
+    (row_element_copy_out_place t)
+    (row_place_requires t)
+    (row_add_row t)
+    (row_add_row_2 t)
     (row-sub-row t)
-    (row-row-requires t)
-    (row-returns-2 t)
+    (row-row_requires t)
+    (row-returns_2 t)

@@ -6,5 +6,5 @@ use Rattle.writer.proofs.checked.Tie as tie
 returns : tie.Need-returns
 returns c = c.reads-back.ensures.checked c.before.before.before.lay.ensures
 
-pub checked-spec : {M : Type 1} → statement M
-checked-spec = tie.close (tie.spec (λ c κs. search rules) (λ c κs. search rules) returns)
+pub checked_spec : {M : Type 1} → statement M
+checked_spec = tie.close (tie.spec (λ c κs. search rules) (λ c κs. search rules) returns)

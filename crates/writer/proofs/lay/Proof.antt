@@ -2,15 +2,15 @@
 use mathlib.Core.Path.{refl}
 use borrow.Author.Rules.{rules}
 use Rattle.spots.specs.Laws.Spots.{row-asks}
-use Rattle.writer.specs.Laws.Frames.{lay-front}
+use Rattle.writer.specs.Laws.Frames.{lay_front}
 use Rattle.writer.proofs.lay.Statement.{statement}
 use Rattle.writer.proofs.lay.Tie as tie
 
-row-requires : tie.Need-row-requires
-row-requires c κs =
+row_requires : tie.Need-row-requires
+row_requires c κs =
     let n = c.before in
     let k = n.before in
-    row-asks k.before.args.cat k.before.requires.0 k.spot_of_lem.ensures n.items_of.ensures
+    row-asks k.before.args.cat k.before.requires.0 k.spot_of.ensures n.items_of.ensures
 
 returns : tie.Need-returns
 returns c =
@@ -19,7 +19,7 @@ returns c =
     let k = n.before in
     let s = k.before in
     let a = s.args in
-    lay-front a.cat a.items a.parts.now a.numbers.now s.requires.0 a.octets.now s.requires.1 k.spot_of_lem.ensures n.items_of.ensures refl r.row.ensures c.octet.ensures refl
+    lay_front a.cat a.items a.parts.now a.numbers.now s.requires.0 a.octets.now s.requires.1 k.spot_of.ensures n.items_of.ensures refl r.row.ensures c.octet.ensures refl
 
-pub lay-spec : {M : Type 1} → statement M
-lay-spec = tie.close (tie.spec (λ c κs. search rules) (λ c κs. search rules) (λ c. search rules) row-requires (λ c κs. search rules) (λ c. search rules) returns)
+pub lay_spec : {M : Type 1} → statement M
+lay_spec = tie.close (tie.spec (λ c κs. search rules) (λ c κs. search rules) (λ c. search rules) row_requires (λ c κs. search rules) (λ c. search rules) returns)

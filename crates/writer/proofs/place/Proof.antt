@@ -2,7 +2,7 @@
 use mathlib.Core.Path.{ap, ◌∙◌}
 use borrow.Author.Rules.{rules}
 use Rattle.spots.specs.declared.Spot.{Spot}
-use Rattle.writer.specs.Laws.Rows.{place-there, place-not}
+use Rattle.writer.specs.Laws.Rows.{place_there, place_not}
 use Rattle.writer.proofs.place.Statement.{statement}
 use Rattle.writer.proofs.place.Tie as tie
 
@@ -14,11 +14,11 @@ returns c =
     let i = p.before in
     let s = i.before in
     let a = s.args in
-    place-there a.k a.count a.numbers.now i.if1.true s.requires
+    place_there a.k a.count a.numbers.now i.if1.true s.requires
     (w1.wide.ensures.0 ∙ ap (λ (x : Spot). x.0) p.spot-at.ensures) (w2.wide2.ensures.0 ∙ ap (λ (x : Spot). x.1) p.spot-at.ensures) c.item.ensures
 
-returns-2 : tie.Need-returns-2
-returns-2 c = let a = c.before.args in place-not a.k a.count a.numbers.now c.if1.false a.octets.now a.at
+returns_2 : tie.Need-returns-2
+returns_2 c = let a = c.before.args in place_not a.k a.count a.numbers.now c.if1.false a.octets.now a.at
 
-pub place-spec : {M : Type 1} → statement M
-place-spec = tie.close (tie.spec (λ c κs. search rules) (λ c κs. search rules) (λ c κs. search rules) (λ c κs. search rules) returns returns-2)
+pub place_spec : {M : Type 1} → statement M
+place_spec = tie.close (tie.spec (λ c κs. search rules) (λ c κs. search rules) (λ c κs. search rules) (λ c κs. search rules) returns returns_2)

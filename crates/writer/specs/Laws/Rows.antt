@@ -10,50 +10,50 @@ use Rattle.std.proofs.Math.ListN.{take}
 use Rattle.codec.specs.Codec.{opt, seq}
 use Rattle.codec.specs.Line.{Held}
 use Rattle.codec.specs.Item.{Item, slots, nothing, item}
-use Rattle.codec.specs.Field.{no_row, uncons, isCons, firstFlag, nextFlags, place, row}
-use Rattle.layout.specs.Laws.Slots.{Holds, holds-item}
+use Rattle.codec.specs.Field.{no_row, uncons, is_cons, first_flag, next_flags, place, row}
+use Rattle.layout.specs.Laws.Slots.{Holds, holds_item}
 use Rattle.shapes.specs.Shapes.{item_at}
-use Rattle.spots.specs.Spots.{spotAt, itemOn, spotOk, row_ok, itemsFrom, numbersOn, heldFrom}
-use Rattle.spots.specs.Laws.Rows.{first-drop, next-drop, items-on, held_on}
+use Rattle.spots.specs.Spots.{spot_at, item_on, spot_ok, row_ok, items_from, numbers_on, held_from}
+use Rattle.spots.specs.Laws.Rows.{first_drop, next_drop, items_on, held_on}
 use Rattle.writer.specs.Laying.{Lays}
-use Rattle.writer.specs.Laws.Laying.{lays-via, lays-there, lays-none, lays-absent, lays-seq}
-use Rattle.writer.specs.Rows.{placeOn}
+use Rattle.writer.specs.Laws.Laying.{lays_via, lays_there, lays_none, lays_absent, lays_seq}
+use Rattle.writer.specs.Rows.{place_on}
 use Rattle.papers.specs.Papers.{SLOTS}
 
 module _ (k n : ℕ) (ns : List ℤ) {t : Bool} where
-  pub place-there : t ≡ true → T (spotOk k) → {j base : ℕ} → j ≡ (spotAt k).0 → base ≡ (spotAt k).1 → {l m : List ℕ} {at next : ℕ}
-      → ((zs : List ℤ) → Holds ns base zs → Lays (item (item_at j)) (n, zs) l at m next) → Lays (placeOn k t) (n, numbersOn k ns) l at m next
-  unfolding placeOn numbersOn spotOk
-  place-there e ok {j} {base} ej eb {l} {m} {at} {next} h =
-      let zs : List ℤ = take (slots (itemOn k)) (drop (spotAt k).1 ns) in
-      lays-there (nothing (slots (itemOn k))) (item (itemOn k)) e
+  pub place_there : t ≡ true → T (spot_ok k) → {j base : ℕ} → j ≡ (spot_at k).0 → base ≡ (spot_at k).1 → {l m : List ℕ} {at next : ℕ}
+      → ((zs : List ℤ) → Holds ns base zs → Lays (item (item_at j)) (n, zs) l at m next) → Lays (place_on k t) (n, numbers_on k ns) l at m next
+  unfolding place_on numbers_on spot_ok
+  place_there e ok {j} {base} ej eb {l} {m} {at} {next} h =
+      let zs : List ℤ = take (slots (item_on k)) (drop (spot_at k).1 ns) in
+      lays_there (nothing (slots (item_on k))) (item (item_on k)) e
       (subst (λ i. Lays (item (item_at i)) (n, zs) l at m next) ej
-      (h zs (subst (λ i. Holds ns i zs) (sym eb) (holds-item ns (spotAt k).1 (slots (itemOn k)) (leb→le ((spotAt k).1 + slots (itemOn k)) SLOTS ok)))))
+      (h zs (subst (λ i. Holds ns i zs) (sym eb) (holds_item ns (spot_at k).1 (slots (item_on k)) (leb→le ((spot_at k).1 + slots (item_on k)) SLOTS ok)))))
 
-  pub place-not : t ≡ false → (l : List ℕ) (at : ℕ) → Lays (placeOn k t) (n, numbersOn k ns) l at l at
-  unfolding placeOn
-  place-not e l at = lays-absent (nothing (slots (itemOn k))) (item (itemOn k)) e
+  pub place_not : t ≡ false → (l : List ℕ) (at : ℕ) → Lays (place_on k t) (n, numbers_on k ns) l at l at
+  unfolding place_on
+  place_not e l at = lays_absent (nothing (slots (item_on k))) (item (item_on k)) e
 
 -- ---- the row
 
 module _ (ds ps : List ℕ) (ns : List ℤ) (k i left : ℕ) where
-  pub row-end : left ≡ 0 → (l : List ℕ) (at : ℕ) → Lays (row ds (itemsFrom k left)) (heldFrom k left i ps ns) l at l at
-  unfolding row itemsFrom
-  row-end e l at = rw e (lays-none no_row)
+  pub row_end : left ≡ 0 → (l : List ℕ) (at : ℕ) → Lays (row ds (items_from k left)) (held_from k left i ps ns) l at l at
+  unfolding row items_from
+  row_end e l at = rw e (lays_none no_row)
 
   module _ (some : left ≡ 0 → ⊥) (ok : T (row_ok k left)) where
-    pub row_on : {t : Bool} → t ≡ eqb (get_or ds i 0) 1 → {c : ℕ} → c ≡ get_or ps i 0 → {l m q : List ℕ} {at next last : ℕ} → Lays (placeOn k t) (c, numbersOn k ns) l at m next
-        → Lays (row (drop (i + 1) ds) (itemsFrom (k + 1) (left - 1))) (heldFrom (k + 1) (left - 1) (i + 1) ps ns) m next q last
-        → Lays (row (drop i ds) (itemsFrom k left)) (heldFrom k left i ps ns) l at q last
-    unfolding row placeOn uncons
+    pub row_on : {t : Bool} → t ≡ eqb (get_or ds i 0) 1 → {c : ℕ} → c ≡ get_or ps i 0 → {l m q : List ℕ} {at next last : ℕ} → Lays (place_on k t) (c, numbers_on k ns) l at m next
+        → Lays (row (drop (i + 1) ds) (items_from (k + 1) (left - 1))) (held_from (k + 1) (left - 1) (i + 1) ps ns) m next q last
+        → Lays (row (drop i ds) (items_from k left)) (held_from k left i ps ns) l at q last
+    unfolding row place_on uncons
     row_on {t} et {c} ec {l} {m} {q} {at} {next} {last} h r =
-        let d : ℕ = firstFlag (drop i ds) in
-        let its : List Item = itemsFrom (k + 1) (left - 1) in
-        let v : Held = (get_or ps i 0, numbersOn k ns) in
-        let vs : List Held = heldFrom (k + 1) (left - 1) (i + 1) ps ns in
-        let there : Lays (place d (itemOn k)) v l at m next
-        = subst₂ (λ b j. Lays (opt (nothing (slots (itemOn k))) b (item (itemOn k))) (j, numbersOn k ns) l at m next) (et ∙ sym (ap (λ x. eqb x 1) (first-drop i ds))) ec h in
-        let rest : Lays (row (nextFlags (drop i ds)) its) vs m next q last = subst (λ x. Lays (row x its) vs m next q last) (sym (next-drop i ds)) r in
-        subst₂ (λ x y. Lays (row (drop i ds) x) y l at q last) (sym (items-on k left some)) (sym (held_on k left some ok i ps ns))
-        (lays-via (λ (p : Held × List Held). p.0 ∷ p.1) uncons isCons (seq (place d (itemOn k)) (λ _. row (nextFlags (drop i ds)) its)) {b = v ∷ vs}
-        (lays-seq (place d (itemOn k)) (λ _. row (nextFlags (drop i ds)) its) {a = v} {b = vs} there (λ _. rest)))
+        let d : ℕ = first_flag (drop i ds) in
+        let its : List Item = items_from (k + 1) (left - 1) in
+        let v : Held = (get_or ps i 0, numbers_on k ns) in
+        let vs : List Held = held_from (k + 1) (left - 1) (i + 1) ps ns in
+        let there : Lays (place d (item_on k)) v l at m next
+        = subst₂ (λ b j. Lays (opt (nothing (slots (item_on k))) b (item (item_on k))) (j, numbers_on k ns) l at m next) (et ∙ sym (ap (λ x. eqb x 1) (first_drop i ds))) ec h in
+        let rest : Lays (row (next_flags (drop i ds)) its) vs m next q last = subst (λ x. Lays (row x its) vs m next q last) (sym (next_drop i ds)) r in
+        subst₂ (λ x y. Lays (row (drop i ds) x) y l at q last) (sym (items_on k left some)) (sym (held_on k left some ok i ps ns))
+        (lays_via (λ (p : Held × List Held). p.0 ∷ p.1) uncons is_cons (seq (place d (item_on k)) (λ _. row (next_flags (drop i ds)) its)) {b = v ∷ vs}
+        (lays_seq (place d (item_on k)) (λ _. row (next_flags (drop i ds)) its) {a = v} {b = vs} there (λ _. rest)))

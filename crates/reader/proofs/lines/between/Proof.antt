@@ -8,10 +8,10 @@ returns c =
     let f = c.before.ranges in
     rw (to_z-of_z f.z, to_z-of_z f.hi) (simp (rw (to_z-of_z f.lo, to_z-of_z f.z) at c.if1.true))
 
-returns-2 : tie.Need-returns-2
-returns-2 c =
+returns_2 : tie.Need-returns-2
+returns_2 c =
     let f = c.before.ranges in
     simp (rw (to_z-of_z f.lo, to_z-of_z f.z) at c.if1.false)
 
-pub between-spec : {M : Type 1} → statement M
-between-spec = tie.close (tie.spec returns returns-2)
+pub between_spec : {M : Type 1} → statement M
+between_spec = tie.close (tie.spec returns returns_2)

@@ -7,14 +7,14 @@ use lib.Pow.{pow_pos}
 use Rattle.reader.proofs.lines.low.Statement.{statement}
 use Rattle.reader.proofs.lines.low.Tie as tie
 
-power-requires : tie.Need-power-requires
-power-requires c κs = search rules
+power_requires : tie.Need-power-requires
+power_requires c κs = search rules
 
-rem-result : tie.Need-nonzero-rem-result
-rem-result c = let p : 0 < 2 ^ c.before.args.w = pow_pos c.before.args.w in omega (arith, c.power.ensures)
+rem_result : tie.Need-nonzero-rem-result
+rem_result c = let p : 0 < 2 ^ c.before.args.w = pow_pos c.before.args.w in omega (arith, c.power.ensures)
 
 returns : tie.Need-returns
 returns c = ap (c.before.args.n %◌) c.power.ensures
 
-pub low-spec : {M : Type 1} → statement M
-low-spec = tie.close (tie.spec power-requires rem-result returns)
+pub low_spec : {M : Type 1} → statement M
+low_spec = tie.close (tie.spec power_requires rem_result returns)

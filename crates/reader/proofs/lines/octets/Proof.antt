@@ -12,7 +12,7 @@ use lib.Seq.{get_or-drop}
 use lib.Pow.{pow_mono, pow-add}
 use mir.Facts.{Fits-of_lt}
 use Rattle.codec.specs.Radix.{join, eights}
-use Rattle.codec.specs.Laws.Radix.{join-take}
+use Rattle.codec.proofs.Laws.Radix.{join-take}
 use Rattle.reader.proofs.lines.octets.Statement.{statement}
 use Rattle.reader.proofs.lines.octets.Tie as tie
 
@@ -29,41 +29,41 @@ one_more xs at i n x h e g =
     let l : i < length (drop at xs) = subst (i <◌) (sym (length-drop at xs)) h in
     ap₂ (λ a b. a * 256 + b) e (g ∙ sym (get_or-drop at xs i 0)) ∙ sym (join-take (drop at xs) i l) ∙ ap (λ m. join (eights m) (take m (drop at xs))) (sym (add-one i))
 
-abbrev invariant-loop : tie.invariant-loop
-invariant-loop s at k n₀ i₀ n i = (i ≤ k) × (n ≡ join (eights i) (take i (drop at s))) × (n < 2 ^ (8 * i))
+abbrev invariant_loop : tie.invariant-loop
+invariant_loop s at k n₀ i₀ n i = (i ≤ k) × (n ≡ join (eights i) (take i (drop at s))) × (n < 2 ^ (8 * i))
 
-abbrev decreases-loop : tie.decreases-loop
-decreases-loop s at k n₀ i₀ n i = k - i
+abbrev decreases_loop : tie.decreases-loop
+decreases_loop s at k n₀ i₀ n i = k - i
 
-loop-holds : tie.Need-loop-init invariant-loop decreases-loop
+loop_holds : tie.Need-loop-init invariant_loop decreases_loop
 unfolding join
-loop-holds c = search rules
+loop_holds c = search rules
 
-mul-n : tie.Need-overflow-mul-n invariant-loop decreases-loop
-mul-n c = Fits-of_lt (omega (arith, under5 c.before.loop.n c.before.loop.i (search rules) c.before.loop.invariant.2))
+mul_n : tie.Need-overflow-mul-n invariant_loop decreases_loop
+mul_n c = Fits-of_lt (omega (arith, under5 c.before.loop.n c.before.loop.i (search rules) c.before.loop.invariant.2))
 
-add-wide64 : tie.Need-overflow-add-wide64 invariant-loop decreases-loop
-add-wide64 c = omega arith
+add_wide64 : tie.Need-overflow-add-wide64 invariant_loop decreases_loop
+add_wide64 c = omega arith
 
-shared-slice-read-wide64 : tie.Need-shared-slice-read-wide64 invariant-loop decreases-loop
-shared-slice-read-wide64 c = omega arith
+shared_slice_read_wide64 : tie.Need-shared-slice-read-wide64 invariant_loop decreases_loop
+shared_slice_read_wide64 c = omega arith
 
-wide64-requires : tie.Need-wide64-requires invariant-loop decreases-loop
-wide64-requires c κs = search rules
+wide64_requires : tie.Need-wide64-requires invariant_loop decreases_loop
+wide64_requires c κs = search rules
 
-add-n : tie.Need-overflow-add-n invariant-loop decreases-loop
-add-n c =
+add_n : tie.Need-overflow-add-n invariant_loop decreases_loop
+add_n c =
     let l = c.before.before.before in
     Fits-of_lt (omega (arith, under5 l.loop.n l.loop.i (search rules) l.loop.invariant.2, c.wide64.ensures.1))
 
-add-i : tie.Need-overflow-add-i invariant-loop decreases-loop
-add-i c = search rules
+add_i : tie.Need-overflow-add-i invariant_loop decreases_loop
+add_i c = search rules
 
-loop-less : tie.Need-loop-smaller invariant-loop decreases-loop
-loop-less c = search rules
+loop_less : tie.Need-loop-smaller invariant_loop decreases_loop
+loop_less c = search rules
 
-loop-again : tie.Need-loop-preserved invariant-loop decreases-loop
-loop-again c =
+loop_again : tie.Need-loop-preserved invariant_loop decreases_loop
+loop_again c =
     let l = c.before.before.before in
     let a = l.before.before.args in
     let i : ℕ = l.loop.i in
@@ -73,14 +73,14 @@ loop-again c =
       omega (arith, c.wide64.ensures.1, l.loop.invariant.2),
     )
 
-returns : tie.Need-returns invariant-loop decreases-loop
+returns : tie.Need-returns invariant_loop decreases_loop
 returns c =
     let l = c.before in
     let a = l.before.before.args in
     let ik : l.loop.i ≡ a.k = omega arith in
     (l.loop.invariant.1 ∙ ap (λ m. join (eights m) (take m (drop a.at a.s.now))) ik, subst (λ m. l.loop.n < 2 ^ (8 * m)) ik l.loop.invariant.2)
 
-pub octets-spec : {M : Type 1} → statement M
-octets-spec =
+pub octets_spec : {M : Type 1} → statement M
+octets_spec =
     tie.close
-    (tie.spec invariant-loop decreases-loop loop-holds mul-n add-wide64 shared-slice-read-wide64 wide64-requires add-n add-i loop-less loop-again returns)
+    (tie.spec invariant_loop decreases_loop loop_holds mul_n add_wide64 shared_slice_read_wide64 wide64_requires add_n add_i loop_less loop_again returns)

@@ -22,8 +22,8 @@ by-sum len at k h = go (ltb len (at + k)) refl
 returns : tie.Need-returns
 returns c = let a = c.before.args in sym (le-ltb (a.len - a.at) a.k (omega (arith, c.if1.true)))
 
-returns-2 : tie.Need-returns-2
-returns-2 c = let a = c.before.args in by-sum a.len a.at a.k c.if1.false
+returns_2 : tie.Need-returns-2
+returns_2 c = let a = c.before.args in by-sum a.len a.at a.k c.if1.false
 
-pub short-spec : {M : Type 1} → statement M
-short-spec = tie.close (tie.spec returns (λ c. search rules) returns-2)
+pub short_spec : {M : Type 1} → statement M
+short_spec = tie.close (tie.spec returns (λ c. search rules) returns_2)

@@ -8,30 +8,30 @@ use lib.Dec.{eqb}
 use lib.IntN.{ℤ, pos}
 use lib.ListN.{get_or, replicate}
 use Rattle.codec.specs.Pick.{pick}
-use Rattle.reader.specs.Laws.Tables.{total, cut, toNum, widths, count, nums, lines_of, slots_of, cat048, cat021, cat007, items, placedFrom, placedIn, placed, placed_at, item_at, lines_from, partsOk, flagsUnder, item_of, itemRun, moreFrom}
-use Rattle.reader.specs.Seen.{flagAt}
+use Rattle.reader.specs.Laws.Tables.{total, cut, to_num, widths, count, nums, lines_of, slots_of, cat048, cat021, cat007, items, placed_from, placed_in, placed, placed_at, item_at, lines_from, parts_ok, flags_under, item_of, item_run, more_from}
+use Rattle.reader.specs.Seen.{flag_at}
 use Rattle.reader.specs.Laws.Items.{item_from}
-use Rattle.reader.specs.Laws.Parts.{Bits, bits, flag-leads, flag-behind, behind-some, two-hold}
-use Rattle.reader.specs.Laws.Onward.{chain-from, by-octet}
-use Rattle.reader.specs.Laws.Looked.{look-chain, look-on}
+use Rattle.reader.specs.Laws.Parts.{Bits, bits, flag_leads, flag_behind, behind_some, two_hold}
+use Rattle.reader.specs.Laws.Onward.{chain-from, by_octet}
+use Rattle.reader.specs.Laws.Looked.{look_chain, look_on}
 use Rattle.reader.specs.Laws.Seen.{ends_same}
 use Rattle.reader.proofs.places.m5n.Statement.{statement}
 use Rattle.reader.proofs.places.m5n.Tie as tie
 
-first-bits : Bits 8 7
-unfolding nums toNum widths cut total placed_at placed placedIn placedFrom lines_of items cat048 cat021 cat007
-first-bits = record { part = refl; octet = refl; numbers = λ m. refl }
+first_bits : Bits 8 7
+unfolding nums to_num widths cut total placed_at placed placed_in placed_from lines_of items cat048 cat021 cat007
+first_bits = record { part = refl; octet = refl; numbers = λ m. refl }
 
-second-bits : Bits 9 1
-unfolding nums toNum widths cut total placed_at placed placedIn placedFrom lines_of items cat048 cat021 cat007
-second-bits = record { part = refl; octet = refl; numbers = λ m. refl }
+second_bits : Bits 9 1
+unfolding nums to_num widths cut total placed_at placed placed_in placed_from lines_of items cat048 cat021 cat007
+second_bits = record { part = refl; octet = refl; numbers = λ m. refl }
 
-last-requires : tie.Need-last-requires
-unfolding partsOk count placed_at placed placedIn placedFrom lines_of items cat048 cat021 cat007
-last-requires c κs = (search rules, tt)
+last_requires : tie.Need-last-requires
+unfolding parts_ok count placed_at placed placed_in placed_from lines_of items cat048 cat021 cat007
+last_requires c κs = (search rules, tt)
 
 returns : tie.Need-returns
-unfolding partsOk flagsUnder itemRun item_at item_of moreFrom lines_from slots_of count cut total placed_at placed placedIn placedFrom lines_of items cat048 cat021 cat007
+unfolding parts_ok flags_under item_run item_at item_of more_from lines_from slots_of count cut total placed_at placed placed_in placed_from lines_of items cat048 cat021 cat007
 returns c =
     let e = c.before in let s7 = e.before in let s6 = s7.before in let s5 = s6.before in let s4 = s5.before in let s3 = s4.before in let s2 = s3.before in
     let s1 = s2.before in let p = s1.before in let f = p.before in let l = f.before in let o = l.before in
@@ -39,21 +39,21 @@ returns c =
     let z = get_or xs a.at 0 in
     let y = get_or xs (a.at + 1) 0 in
     let rest : List ℤ = pick (eqb (z % 2) 1) (bits 1 y) (replicate 1 (pos 0)) in
-    let h0 = look-chain xs _ (chain-from 8 xs 0 tt a.at l.seen.ensures (by-octet xs f.before2.ensures p.last.ensures)) (two-hold 8 7 1 first-bits second-bits xs a.at) in
-    let h1 = look-on 10 xs _ h0 (omega arith) (flag-leads z rest 0 (omega arith) (ap (λ x. flagAt x 0) u)) s1.line.ensures in
-    let h2 = look-on 11 xs _ h1 (omega arith) (flag-leads z rest 1 (omega arith) (ap (λ x. flagAt x 1) u)) s2.line2.ensures in
-    let h3 = look-on 12 xs _ h2 (omega arith) (flag-leads z rest 2 (omega arith) (ap (λ x. flagAt x 2) u)) s3.line3.ensures in
-    let h4 = look-on 13 xs _ h3 (omega arith) (flag-leads z rest 3 (omega arith) (ap (λ x. flagAt x 3) u)) s4.line4.ensures in
-    let h5 = look-on 14 xs _ h4 (omega arith) (flag-leads z rest 4 (omega arith) (ap (λ x. flagAt x 4) u)) s5.line5.ensures in
-    let h6 = look-on 15 xs _ h5 (omega arith) (flag-leads z rest 5 (omega arith) (ap (λ x. flagAt x 5) u)) s6.line6.ensures in
-    let h7 = look-on 16 xs _ h6 (omega arith) (flag-leads z rest 6 (omega arith) (ap (λ x. flagAt x 6) u)) s7.line7.ensures in
-    let h8 = look-on 17 xs _ h7 (behind-some z y 1 (omega arith)) (flag-behind z y 1 (ap (λ x. flagAt x 0) (e.second.ensures ∙ ap (λ x. pick (eqb (x % 2) 1) y 0) u))) c.line8.ensures in
+    let h0 = look_chain xs _ (chain-from 8 xs 0 tt a.at l.seen.ensures (by_octet xs f.before2.ensures p.last.ensures)) (two_hold 8 7 1 first_bits second_bits xs a.at) in
+    let h1 = look_on 10 xs _ h0 (omega arith) (flag_leads z rest 0 (omega arith) (ap (λ x. flag_at x 0) u)) s1.line.ensures in
+    let h2 = look_on 11 xs _ h1 (omega arith) (flag_leads z rest 1 (omega arith) (ap (λ x. flag_at x 1) u)) s2.line2.ensures in
+    let h3 = look_on 12 xs _ h2 (omega arith) (flag_leads z rest 2 (omega arith) (ap (λ x. flag_at x 2) u)) s3.line3.ensures in
+    let h4 = look_on 13 xs _ h3 (omega arith) (flag_leads z rest 3 (omega arith) (ap (λ x. flag_at x 3) u)) s4.line4.ensures in
+    let h5 = look_on 14 xs _ h4 (omega arith) (flag_leads z rest 4 (omega arith) (ap (λ x. flag_at x 4) u)) s5.line5.ensures in
+    let h6 = look_on 15 xs _ h5 (omega arith) (flag_leads z rest 5 (omega arith) (ap (λ x. flag_at x 5) u)) s6.line6.ensures in
+    let h7 = look_on 16 xs _ h6 (omega arith) (flag_leads z rest 6 (omega arith) (ap (λ x. flag_at x 6) u)) s7.line7.ensures in
+    let h8 = look_on 17 xs _ h7 (behind_some z y 1 (omega arith)) (flag_behind z y 1 (ap (λ x. flag_at x 0) (e.second.ensures ∙ ap (λ x. pick (eqb (x % 2) 1) y 0) u))) c.line8.ensures in
     ends_same h8.ends (sym (item_from 8 1 8 xs a.at tt))
 
-pub m5n-spec : {M : Type 1} → statement M
-m5n-spec =
+pub m5n_spec : {M : Type 1} → statement M
+m5n_spec =
     tie.close
-    (tie.spec (λ c κs. search rules) (λ c κs. search rules) (λ c κs. search rules) last-requires
+    (tie.spec (λ c κs. search rules) (λ c κs. search rules) (λ c κs. search rules) last_requires
     (λ c κs. search rules) (λ c κs. search rules) (λ c κs. search rules) (λ c κs. search rules) (λ c κs. search rules) (λ c κs. search rules) (λ c κs. c.before.before.before.before.before.before.before.before.before.before.before.requires.0)
     (λ c κs. c.before.before.before.before.before.before.before.before.before.before.before.before.requires.1) (λ c κs. c.before.before.before.before.before.before.before.before.before.before.before.before.before.requires.0)
     returns)

@@ -2,37 +2,37 @@
 use mathlib.Core.Path.{refl, sym}
 use native.Mathlib.Omega.{arith}
 use borrow.Author.Rules.{rules}
-use Rattle.reader.specs.Laws.Tables.{total, cut, toNum, widths, count, nums, slots_of, cat048, cat021, cat007, items, placedFrom, placedIn, placed, placed_at, lines_of, item_at, lines_from, partsOk, flagsUnder, item_of, itemRun, moreFrom}
+use Rattle.reader.specs.Laws.Tables.{total, cut, to_num, widths, count, nums, slots_of, cat048, cat021, cat007, items, placed_from, placed_in, placed, placed_at, lines_of, item_at, lines_from, parts_ok, flags_under, item_of, item_run, more_from}
 use Rattle.reader.specs.Laws.Items.{item_from}
-use Rattle.reader.specs.Laws.Parts.{Bits, bits, flag-is-bit, one_holds}
-use Rattle.reader.specs.Laws.Looked.{look-chain, look-on}
+use Rattle.reader.specs.Laws.Parts.{Bits, bits, flag_is_bit, one_holds}
+use Rattle.reader.specs.Laws.Looked.{look_chain, look_on}
 use Rattle.reader.specs.Laws.Seen.{ends_same}
 use Rattle.reader.proofs.places.rpc.Statement.{statement}
 use Rattle.reader.proofs.places.rpc.Tie as tie
 
-part-bits : Bits 19 4
-unfolding nums toNum widths cut total placed_at placed placedIn placedFrom lines_of items cat048 cat021 cat007
-part-bits = record { part = refl; octet = refl; numbers = λ m. refl }
+part_bits : Bits 19 4
+unfolding nums to_num widths cut total placed_at placed placed_in placed_from lines_of items cat048 cat021 cat007
+part_bits = record { part = refl; octet = refl; numbers = λ m. refl }
 
-only-requires : tie.Need-only-requires
-unfolding partsOk count placed_at placed placedIn placedFrom lines_of items cat048 cat021 cat007
-only-requires c κs = let s = c.before.before in (s.requires.0, s.requires.1, tt)
+only_requires : tie.Need-only-requires
+unfolding parts_ok count placed_at placed placed_in placed_from lines_of items cat048 cat021 cat007
+only_requires c κs = let s = c.before.before in (s.requires.0, s.requires.1, tt)
 
 returns : tie.Need-returns
-unfolding flagsUnder itemRun item_at item_of moreFrom lines_from slots_of count cut total placed_at placed placedIn placedFrom lines_of items cat048 cat021 cat007
+unfolding flags_under item_run item_at item_of more_from lines_from slots_of count cut total placed_at placed placed_in placed_from lines_of items cat048 cat021 cat007
 returns c =
     let s3 = c.before in let s2 = s3.before in let s1 = s2.before in let p = s1.before in let o = p.before in let a = o.before.before.args in
     let xs = a.s.now in let f = o.octet-at.result in
-    let h0 = look-chain xs (bits 4 f) p.only.ensures (rw o.octet-at.ensures (one_holds 19 4 part-bits xs a.at)) in
-    let h1 = look-on 20 xs _ h0 (omega arith) (flag-is-bit f 4 0 (omega arith) (omega arith) refl) s1.line.ensures in
-    let h2 = look-on 21 xs _ h1 (omega arith) (flag-is-bit f 4 1 (omega arith) (omega arith) refl) s2.line2.ensures in
-    let h3 = look-on 22 xs _ h2 (omega arith) (flag-is-bit f 4 2 (omega arith) (omega arith) refl) s3.line3.ensures in
-    let h4 = look-on 23 xs _ h3 (omega arith) (flag-is-bit f 4 3 (omega arith) (omega arith) refl) c.line4.ensures in
+    let h0 = look_chain xs (bits 4 f) p.only.ensures (rw o.octet-at.ensures (one_holds 19 4 part_bits xs a.at)) in
+    let h1 = look_on 20 xs _ h0 (omega arith) (flag_is_bit f 4 0 (omega arith) (omega arith) refl) s1.line.ensures in
+    let h2 = look_on 21 xs _ h1 (omega arith) (flag_is_bit f 4 1 (omega arith) (omega arith) refl) s2.line2.ensures in
+    let h3 = look_on 22 xs _ h2 (omega arith) (flag_is_bit f 4 2 (omega arith) (omega arith) refl) s3.line3.ensures in
+    let h4 = look_on 23 xs _ h3 (omega arith) (flag_is_bit f 4 3 (omega arith) (omega arith) refl) c.line4.ensures in
     ends_same h4.ends (sym (item_from 19 0 4 xs a.at tt))
 
-pub rpc-spec : {M : Type 1} → statement M
-rpc-spec =
+pub rpc_spec : {M : Type 1} → statement M
+rpc_spec =
     tie.close
-    (tie.spec (λ c κs. search rules) only-requires
+    (tie.spec (λ c κs. search rules) only_requires
     (λ c κs. search rules) (λ c κs. search rules) (λ c κs. search rules) (λ c κs. c.before.before.before.before.before.before.requires.0)
     returns)

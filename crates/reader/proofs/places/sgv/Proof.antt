@@ -1,28 +1,28 @@
 -- `reader::places::sgv` meets its contract: one law at each way out. Assumes nothing.
 use mathlib.Core.Path.{sym}
 use borrow.Author.Rules.{rules}
-use Rattle.reader.specs.Laws.Tables.{count, lines_of, slots_of, cat048, cat021, cat007, items, placedFrom, placedIn, placed, placed_at, item_at, lines_from, partsOk, flagsUnder, item_of, itemRun, moreFrom}
+use Rattle.reader.specs.Laws.Tables.{count, lines_of, slots_of, cat048, cat021, cat007, items, placed_from, placed_in, placed, placed_at, item_at, lines_from, parts_ok, flags_under, item_of, item_run, more_from}
 use Rattle.reader.specs.Laws.Items.{item_from}
-use Rattle.reader.specs.Laws.Onward.{chain-from, by-octet}
+use Rattle.reader.specs.Laws.Onward.{chain-from, by_octet}
 use Rattle.reader.specs.Laws.Seen.{ends_same}
 use Rattle.reader.proofs.places.sgv.Statement.{statement}
 use Rattle.reader.proofs.places.sgv.Tie as tie
 
-last-requires : tie.Need-last-requires
-unfolding partsOk count placed_at placed placedIn placedFrom lines_of items cat048 cat021 cat007
-last-requires c κs = (search rules, tt)
+last_requires : tie.Need-last-requires
+unfolding parts_ok count placed_at placed placed_in placed_from lines_of items cat048 cat021 cat007
+last_requires c κs = (search rules, tt)
 
 returns : tie.Need-returns
-unfolding partsOk flagsUnder itemRun item_at item_of moreFrom lines_from slots_of count placed_at placed placedIn placedFrom lines_of items cat048 cat021 cat007
+unfolding parts_ok flags_under item_run item_at item_of more_from lines_from slots_of count placed_at placed placed_in placed_from lines_of items cat048 cat021 cat007
 returns c =
     let f = c.before in let p = f.before in let a = p.before.before.args in let xs = a.s.now in
-    ends_same (chain-from 29 xs 0 tt a.at p.seen.ensures (by-octet xs f.before2.ensures c.last.ensures)) (sym (item_from 29 1 0 xs a.at tt))
+    ends_same (chain-from 29 xs 0 tt a.at p.seen.ensures (by_octet xs f.before2.ensures c.last.ensures)) (sym (item_from 29 1 0 xs a.at tt))
 
-pub sgv-spec : {M : Type 1} → statement M
-sgv-spec =
+pub sgv_spec : {M : Type 1} → statement M
+sgv_spec =
     tie.close
     (tie.spec
     (λ c κs. search rules)
     (λ c κs. search rules)
-    last-requires
+    last_requires
     returns)

@@ -3,8 +3,8 @@ use mathlib.Core.Path.{refl}
 use Prim.Native.Nat.{◌+◌, ◌≤◌}
 use native.Mathlib.Omega.{arith}
 use lib.ListN.{length}
-use Rattle.reader.specs.Laws.Tables.{total, cut, toNum, widths, count, nums, slots_of, SLOTS, cat048, cat021, cat007, items, placedFrom, placedIn, placed, placed_at, lines_of, item_at, lines_from, partsOk, flagsUnder, item_of, moreFrom}
-use Rattle.reader.specs.Laws.Taking.{spanFrom, sub-on, item-ends, part-there, Flagged, flags_of, one-begun, one-room, item-absent}
+use Rattle.reader.specs.Laws.Tables.{total, cut, to_num, widths, count, nums, slots_of, SLOTS, cat048, cat021, cat007, items, placed_from, placed_in, placed, placed_at, lines_of, item_at, lines_from, parts_ok, flags_under, item_of, more_from}
+use Rattle.reader.specs.Laws.Taking.{span_from, sub_on, item_ends, part_there, Flagged, flags_of, one_begun, one_room, item_absent}
 use Rattle.reader.proofs.taking.rpc.Statement.{statement}
 use Rattle.reader.proofs.taking.rpc.Tie as tie
 use Rattle.reader.proofs.taking.rpc.Reads as reads
@@ -13,30 +13,30 @@ use Rattle.reader.proofs.numbers.take.Reads as take-reads
 use Rattle.reader.proofs.taking.subfield.Reads as subfield-reads
 
 is : Flagged 3 19 4 4
-unfolding partsOk nums toNum widths cut total slots_of flagsUnder item_at item_of lines_from count placed_at placed placedIn placedFrom lines_of items cat048 cat021 cat007
-is = record { item = record { shape = refl; start = refl; parts = tt; under = tt }; part-bits = record { part = refl; octet = refl; numbers = λ m. refl } }
+unfolding parts_ok nums to_num widths cut total slots_of flags_under item_at item_of lines_from count placed_at placed placed_in placed_from lines_of items cat048 cat021 cat007
+is = record { item = record { shape = refl; start = refl; parts = tt; under = tt }; part_bits = record { part = refl; octet = refl; numbers = λ m. refl } }
 
 -- all of it is there
 span : (p : lts.After-take (take-reads.Asked, take-reads.Learnt, subfield-reads.Asked, subfield-reads.Learnt) reads.Pre reads.Post) → let s = p.before.before.before.before in
-    (p.take.result + spanFrom (flags_of 4 s.args.s.now s.args.at) 20 4 ≤ length s.args.s.now) × (s.args.base + 8 ≤ SLOTS)
-unfolding cut flagsUnder lines_from placed_at placed placedIn placedFrom lines_of items cat048 cat021 cat007
-span p = let i = p.before.before in let s = i.before.before in (one-room is s.args.s.now s.args.at i.if1.true s.requires.0 s.args.base p.take.ensures s.requires.2 tt, s.requires.1)
+    (p.take.result + span_from (flags_of 4 s.args.s.now s.args.at) 20 4 ≤ length s.args.s.now) × (s.args.base + 8 ≤ SLOTS)
+unfolding cut flags_under lines_from placed_at placed placed_in placed_from lines_of items cat048 cat021 cat007
+span p = let i = p.before.before in let s = i.before.before in (one_room is s.args.s.now s.args.at i.if1.true s.requires.0 s.args.base p.take.ensures s.requires.2 tt, s.requires.1)
 
 returns : tie.Need-returns
-unfolding moreFrom slots_of lines_from cut total count placed_at placed placedIn placedFrom lines_of items cat048 cat021 cat007
+unfolding more_from slots_of lines_from cut total count placed_at placed placed_in placed_from lines_of items cat048 cat021 cat007
 returns c =
     let s4 = c.before in let s3 = s4.before.before.before in let s2 = s3.before.before.before in let s1 = s2.before.before.before in
     let p = s1.before.before.before.before in let i = p.before.before in let s = i.before.before in let xs = s.args.s.now in
-    let h0 = one-begun is xs s.args.at i.if1.true s.requires.0 s.args.base p.take.ensures in let h1 = sub-on 20 (omega arith) h0 s1.subfield.ensures in
-    let h2 = sub-on 21 (omega arith) h1 s2.subfield2.ensures in let h3 = sub-on 22 (omega arith) h2 s3.subfield3.ensures in
-    item-ends is.item xs s.args.at i.if1.true (sub-on 23 (omega arith) h3 s4.subfield4.ensures).item refl
+    let h0 = one_begun is xs s.args.at i.if1.true s.requires.0 s.args.base p.take.ensures in let h1 = sub_on 20 (omega arith) h0 s1.subfield.ensures in
+    let h2 = sub_on 21 (omega arith) h1 s2.subfield2.ensures in let h3 = sub_on 22 (omega arith) h2 s3.subfield3.ensures in
+    item_ends is.item xs s.args.at i.if1.true (sub_on 23 (omega arith) h3 s4.subfield4.ensures).item refl
 
-pub rpc-spec : {M : Type 1} → statement M
-unfolding spanFrom count cut total placed_at placed placedIn placedFrom lines_of items cat048 cat021 cat007
-rpc-spec =
+pub rpc_spec : {M : Type 1} → statement M
+unfolding span_from count cut total placed_at placed placed_in placed_from lines_of items cat048 cat021 cat007
+rpc_spec =
     tie.close
     (tie.spec
-    (λ c κs. let s = c.before.before.before in (omega (arith, part-there is.item s.args.s.now s.args.at c.before.if1.true s.requires.2), omega (arith, s.requires.1), s.requires.0))
+    (λ c κs. let s = c.before.before.before in (omega (arith, part_there is.item s.args.s.now s.args.at c.before.if1.true s.requires.2), omega (arith, s.requires.1), s.requires.0))
     (λ c. omega (arith, span c.before.before))
     (λ c κs. let g = span c.before.before.before in (omega arith, omega (arith, g), omega (arith, g)))
     (λ c κs. let g = span c.before.before.before.before.before.before in (omega arith, omega (arith, g), omega (arith, g)))
@@ -44,4 +44,4 @@ rpc-spec =
     (λ c κs. let g = span c.before.before.before.before.before.before.before.before.before.before.before.before in (omega arith, omega (arith, g), omega (arith, g)))
     (λ c. (returns c).taken.long)
     returns
-    (λ c. let a = c.before.before.args in item-absent 3 a.s.now a.at c.if1.false a.numbers.now a.base))
+    (λ c. let a = c.before.before.args in item_absent 3 a.s.now a.at c.if1.false a.numbers.now a.base))

@@ -2,12 +2,12 @@
 use native.Mathlib.Omega.{arith}
 use mir.Facts.{Fits-of_lt}
 use Rattle.shapes.specs.Laws.Shapes.{shaped-well}
-use Rattle.sheet.specs.Laws.Lines.{item-single, item-chained}
+use Rattle.sheet.specs.Laws.Lines.{item_single, item_chained}
 use Rattle.sheet.proofs.items.item.Statement.{statement}
 use Rattle.sheet.proofs.items.item.Tie as tie
 
-lines-requires : tie.Need-lines-requires
-lines-requires c κs =
+lines_requires : tie.Need-lines-requires
+lines_requires c κs =
     let h = c.before.before in
     let s = h.before.before in
     (s.requires.0, omega (arith, (shaped-well s.args.k h.shape_at.ensures).few), s.requires.1)
@@ -17,25 +17,25 @@ returns c =
     let i = c.before.before in
     let h = i.before in
     let a = h.before.before.args in
-    item-single a.keys.now a.numbers.now a.count a.k a.base h.shape_at.ensures i.if1.true c.lines.ensures
+    item_single a.keys.now a.numbers.now a.count a.k a.base h.shape_at.ensures i.if1.true c.lines.ensures
 
-add-lines : tie.Need-overflow-add-lines
-add-lines c =
+add_lines : tie.Need-overflow-add-lines
+add_lines c =
     let h = c.before.before in
     Fits-of_lt (omega (arith, (shaped-well h.before.before.args.k h.shape_at.ensures).few))
 
-lines-requires-2 : tie.Need-lines-requires-2
-lines-requires-2 c κs =
+lines_requires_2 : tie.Need-lines-requires-2
+lines_requires_2 c κs =
     let h = c.before.before.before in
     let s = h.before.before in
     (s.requires.0, omega (arith, (shaped-well s.args.k h.shape_at.ensures).few), s.requires.1)
 
-returns-2 : tie.Need-returns-2
-returns-2 c =
+returns_2 : tie.Need-returns-2
+returns_2 c =
     let i = c.before.before.before in
     let h = i.before in
     let a = h.before.before.args in
-    item-chained a.keys.now a.numbers.now a.count a.k a.base h.shape_at.ensures i.if1.false c.lines2.ensures
+    item_chained a.keys.now a.numbers.now a.count a.k a.base h.shape_at.ensures i.if1.false c.lines2.ensures
 
-pub item-spec : {M : Type 1} → statement M
-item-spec = tie.close (tie.spec (λ c κs. tt) lines-requires returns add-lines lines-requires-2 returns-2)
+pub item_spec : {M : Type 1} → statement M
+item_spec = tie.close (tie.spec (λ c κs. tt) lines_requires returns add_lines lines_requires_2 returns_2)

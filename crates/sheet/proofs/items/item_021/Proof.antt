@@ -8,12 +8,12 @@ use Rattle.papers.specs.Cat048.{cat048}
 use Rattle.papers.specs.Cat021.{cat021}
 use Rattle.papers.specs.Cat007.{cat007}
 use Rattle.papers.specs.Names.{text, names048, names021, names007}
-use Rattle.scope.specs.Sheet.{chainText}
+use Rattle.scope.specs.Sheet.{chain_text}
 use Rattle.lengths.specs.Lines.{items}
 use Rattle.shapes.specs.Shapes.{item_at}
 use Rattle.sheet.specs.Laws.Keys.{groups}
 use Rattle.sheet.specs.Items.{named, named_at}
-use Rattle.sheet.specs.Laws.Items.{arm_plain, arm-chained}
+use Rattle.sheet.specs.Laws.Items.{arm_plain, arm_chained}
 use Rattle.sheet.proofs.items.item_021.Statement.{statement}
 use Rattle.sheet.proofs.items.item_021.Tie as tie
 
@@ -25,57 +25,57 @@ exact : (k : ℕ) → 12 ≤ k → k < 13 → k ≡ 12
 exact k h l = omega arith
 
 returns : tie.Need-returns
-unfolding groups named_at named names048 names021 names007 item_at items cat048 cat021 cat007 lines_of chainText
+unfolding groups named_at named names048 names021 names007 item_at items cat048 cat021 cat007 lines_of chain_text
 returns c =
     let m = c.before.before.before in
     let a = m.before.args in
     arm_plain a.numbers.now a.base a.count 5 m.match.keys1 (text "BPS? ") refl (λ j. refl) c.item.ensures
 
-returns-2 : tie.Need-returns-2
-unfolding groups named_at named names048 names021 names007 item_at items cat048 cat021 cat007 lines_of chainText
-returns-2 c =
+returns_2 : tie.Need-returns-2
+unfolding groups named_at named names048 names021 names007 item_at items cat048 cat021 cat007 lines_of chain_text
+returns_2 c =
     let m = c.before.before.before in
     let a = m.before.args in
     arm_plain a.numbers.now a.base a.count 6 m.match.keys2 (text "SelH.HRD=SelH.Stat=SelH.SelH= ") refl (λ j. refl) c.item2.ensures
 
-returns-3 : tie.Need-returns-3
-unfolding groups named_at named names048 names021 names007 item_at items cat048 cat021 cat007 lines_of chainText
-returns-3 c =
+returns_3 : tie.Need-returns-3
+unfolding groups named_at named names048 names021 names007 item_at items cat048 cat021 cat007 lines_of chain_text
+returns_3 c =
     let m = c.before.before.before in
     let a = m.before.args in
     arm_plain a.numbers.now a.base a.count 7 m.match.keys3 (text "NAV.AP=NAV.VN=NAV.AH=NAV.AM=NAV.MFM#EP=NAV.MFM#VAL= ") refl (λ j. refl) c.item3.ensures
 
-returns-4 : tie.Need-returns-4
-unfolding groups named_at named names048 names021 names007 item_at items cat048 cat021 cat007 lines_of chainText
-returns-4 c =
+returns_4 : tie.Need-returns-4
+unfolding groups named_at named names048 names021 names007 item_at items cat048 cat021 cat007 lines_of chain_text
+returns_4 c =
     let m = c.before.before.before in
     let a = m.before.args in
     arm_plain a.numbers.now a.base a.count 8 m.match.keys4 (text "GAO.Lateral=GAO.Longitudinal= ") refl (λ j. refl) c.item4.ensures
 
-returns-5 : tie.Need-returns-5
-unfolding groups named_at named names048 names021 names007 item_at items cat048 cat021 cat007 lines_of chainText
-returns-5 c =
+returns_5 : tie.Need-returns-5
+unfolding groups named_at named names048 names021 names007 item_at items cat048 cat021 cat007 lines_of chain_text
+returns_5 c =
     let m = c.before.before.before.before in
     let a = m.before.args in
-    arm-chained a.numbers.now a.base a.count 9 m.match.keys5 (text "SGV.STP=SGV.HTS=SGV.HTT=SGV.HRD=SGV.GSS= SGV.HGT= ") refl (text "SGV.chain") (λ j. refl) c.chained.ensures
+    arm_chained a.numbers.now a.base a.count 9 m.match.keys5 (text "SGV.STP=SGV.HTS=SGV.HTT=SGV.HRD=SGV.GSS= SGV.HGT= ") refl (text "SGV.chain") (λ j. refl) c.chained.ensures
 
-returns-6 : tie.Need-returns-6
-unfolding groups named_at named names048 names021 names007 item_at items cat048 cat021 cat007 lines_of chainText
-returns-6 c =
+returns_6 : tie.Need-returns-6
+unfolding groups named_at named names048 names021 names007 item_at items cat048 cat021 cat007 lines_of chain_text
+returns_6 c =
     let m = c.before.before.before.before in
     let a = m.before.args in
-    arm-chained a.numbers.now a.base a.count 10 m.match.keys6 (text "STA.ES=STA.UAT=STA.RCE#EP=STA.RCE#VAL=STA.RRL#EP=STA.RRL#VAL= STA.PS3#EP=STA.PS3#VAL=STA.TPW#EP=STA.TPW#VAL= STA.TSI#EP=STA.TSI#VAL=STA.MUO#EP=STA.MUO#VAL=STA.RWC#EP=STA.RWC#VAL= STA.DAA#EP=STA.DAA#VAL=STA.DF17CA#EP=STA.DF17CA#VAL= STA.SVH#EP=STA.SVH#VAL=STA.CATC#EP=STA.CATC#VAL= STA.TAO#EP=STA.TAO#VAL= ") refl (text "STA.chain") (λ j. refl) c.chained2.ensures
+    arm_chained a.numbers.now a.base a.count 10 m.match.keys6 (text "STA.ES=STA.UAT=STA.RCE#EP=STA.RCE#VAL=STA.RRL#EP=STA.RRL#VAL= STA.PS3#EP=STA.PS3#VAL=STA.TPW#EP=STA.TPW#VAL= STA.TSI#EP=STA.TSI#VAL=STA.MUO#EP=STA.MUO#VAL=STA.RWC#EP=STA.RWC#VAL= STA.DAA#EP=STA.DAA#VAL=STA.DF17CA#EP=STA.DF17CA#VAL= STA.SVH#EP=STA.SVH#VAL=STA.CATC#EP=STA.CATC#VAL= STA.TAO#EP=STA.TAO#VAL= ") refl (text "STA.chain") (λ j. refl) c.chained2.ensures
 
-returns-7 : tie.Need-returns-7
-unfolding groups named_at named names048 names021 names007 item_at items cat048 cat021 cat007 lines_of chainText
-returns-7 c =
+returns_7 : tie.Need-returns-7
+unfolding groups named_at named names048 names021 names007 item_at items cat048 cat021 cat007 lines_of chain_text
+returns_7 c =
     let m = c.before.before.before in
     let a = m.before.args in
     arm_plain a.numbers.now a.base a.count 11 m.match.keys7 (text "TNH= ") refl (λ j. refl) c.item5.ensures
 
-returns-8 : tie.Need-returns-8
-unfolding groups named_at named names048 names021 names007 item_at items cat048 cat021 cat007 lines_of chainText
-returns-8 c =
+returns_8 : tie.Need-returns-8
+unfolding groups named_at named names048 names021 names007 item_at items cat048 cat021 cat007 lines_of chain_text
+returns_8 c =
     let m = c.before.before.before in
     let a = m.before.args in
     let g = m.before.requires in
@@ -83,8 +83,8 @@ returns-8 c =
     let past = above a.k 11 (above a.k 10 (above a.k 9 (above a.k 8 (above a.k 7 (above a.k 6 (above a.k 5 g.1 r.0.0.0.0.0.0.1) r.0.0.0.0.0.1) r.0.0.0.0.1) r.0.0.0.1) r.0.0.1) r.0.1) r.1 in
     arm_plain a.numbers.now a.base a.count 12 (exact a.k past g.2) (text ":::::: MES.SUM.M5=MES.SUM.ID=MES.SUM.DA=MES.SUM.M1=MES.SUM.M2=MES.SUM.M3=MES.SUM.MC=MES.SUM.PO= MES.PNO.PIN=MES.PNO.NO= MES.EM1.V=MES.EM1.L=MES.EM1.EM1= MES.XP.XP=MES.XP.X5=MES.XP.XC=MES.XP.X3=MES.XP.X2=MES.XP.X1= MES.FOM= MES.M2.V=MES.M2.L=MES.M2.M2= ") refl (λ j. refl) c.item6.ensures
 
-pub item-021-spec : {M : Type 1} → statement M
-item-021-spec =
+pub item_021_spec : {M : Type 1} → statement M
+item_021_spec =
     tie.close
     (tie.spec
     (λ c. search rules)
@@ -106,10 +106,10 @@ item-021-spec =
     (λ c. search rules)
     (λ c κs. search rules)
     returns
-    returns-2
-    returns-3
-    returns-4
-    returns-5
-    returns-6
-    returns-7
-    returns-8)
+    returns_2
+    returns_3
+    returns_4
+    returns_5
+    returns_6
+    returns_7
+    returns_8)

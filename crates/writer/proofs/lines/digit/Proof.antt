@@ -34,10 +34,10 @@ low_below w (negsuc n) t = refl
 apart : {X : Type 0} → ◌≡◌ true false → X
 apart e = let z : ◌≡◌ {A = ℕ} 0 1 = cc in absurd (omega arith)
 
-low-above : (w : ℕ) (x : ℤ) → lt_z x (pos 0) ≡ false → nat_abs x % 2 ^ w ≡ low_bits w x
+low_above : (w : ℕ) (x : ℤ) → lt_z x (pos 0) ≡ false → nat_abs x % 2 ^ w ≡ low_bits w x
 unfolding low_bits
-low-above w (pos n) t = refl
-low-above w (negsuc n) t = apart t
+low_above w (pos n) t = refl
+low_above w (negsuc n) t = apart t
 
 not_negative : (x : ℤ) → lt_z x (pos 0) ≡ false → T (non_neg x)
 not_negative (pos n) t = tt
@@ -52,30 +52,30 @@ flip c = flipped c.before.before.args.z c.before.before.ranges.z (below c)
 some : {p : ℕ} (w : ℕ) → p ≡ 2 ^ w → 1 ≤ p
 some w e = let h : 0 < 2 ^ w = pow_pos w in omega arith
 
-sub-result : tie.Need-overflow-sub-result
-sub-result c = some c.before.before.args.w c.before.power.ensures
+sub_result : tie.Need-overflow-sub-result
+sub_result c = some c.before.before.args.w c.before.power.ensures
 
-cast-result : tie.Need-overflow-cast-result
-cast-result c = rw (flip c) (tt, record { fits = omega (arith, c.before.before.ranges.z.sfits) })
+cast_result : tie.Need-overflow-cast-result
+cast_result c = rw (flip c) (tt, record { fits = omega (arith, c.before.before.ranges.z.sfits) })
 
-sub-result-2 : tie.Need-overflow-sub-result-2
-sub-result-2 c =
+sub_result_2 : tie.Need-overflow-sub-result-2
+sub_result_2 c =
     let h : 0 < c.before.power.result = some c.before.before.args.w c.before.power.ensures in
     rw (flip c) (omega (arith, mod-lt (mag c.before.before.args.z) h))
 
 returns : tie.Need-returns
 returns c = rw (flip c, c.before.power.ensures) (low_below c.before.before.args.w c.before.before.args.z (below c))
 
-cast-result-2 : tie.Need-overflow-cast-result-2
-cast-result-2 c =
+cast_result_2 : tie.Need-overflow-cast-result-2
+cast_result_2 c =
     let x = c.before.before.args.z in
     let f = c.before.before.ranges.z in
     rw (to_z-of_z f) (not_negative x (rw (to_z-of_z f) at c.if1.false), Fits-nat_abs {w = w32} {w' = w64} {z = x} tt f)
 
-returns-2 : tie.Need-returns-2
-returns-2 c =
+returns_2 : tie.Need-returns-2
+returns_2 c =
     let f = c.before.before.ranges.z in
-    rw (to_z-of_z f, c.before.power.ensures) (low-above c.before.before.args.w c.before.before.args.z (rw (to_z-of_z f) at c.if1.false))
+    rw (to_z-of_z f, c.before.power.ensures) (low_above c.before.before.args.w c.before.before.args.z (rw (to_z-of_z f) at c.if1.false))
 
-pub digit-spec : {M : Type 1} → statement M
-digit-spec = tie.close (tie.spec (λ c κs. search rules) sub-result cast-result sub-result sub-result-2 returns cast-result-2 (λ c. some c.before.before.args.w c.before.power.ensures) returns-2)
+pub digit_spec : {M : Type 1} → statement M
+digit_spec = tie.close (tie.spec (λ c κs. search rules) sub_result cast_result sub_result sub_result_2 returns cast_result_2 (λ c. some c.before.before.args.w c.before.power.ensures) returns_2)

@@ -14,5 +14,5 @@ under w h = rw (one-mul (2 ^ w)) (lt_of_le_of_lt (pow_mono {i = w} {j = 63} (ome
 returns : tie.Need-returns
 returns c = mod-eq_of_lt (under c.args.w c.requires) ∙ one-mul _
 
-pub power-spec : {M : Type 1} → statement M
-power-spec = tie.close (tie.spec (λ c. search rules) returns)
+pub power_spec : {M : Type 1} → statement M
+power_spec = tie.close (tie.spec (λ c. search rules) returns)
