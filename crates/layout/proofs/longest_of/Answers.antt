@@ -1,0 +1,18 @@
+-- `layout::longest_of` meets its contract, by the law of each category. Assumes nothing.
+use mathlib.Core.Path.{sym, ap, ◌∙◌}
+use Rattle.codec.specs.Field.{longest}
+use Rattle.papers.proofs.Laws.Papers.{paper_048, paper_021, paper_007, paper_none, numbers_048, numbers_021, numbers_007, numbers_none}
+use Rattle.layout.proofs.longest_of.Goals as goal
+
+pub returns-in-48 : goal.returns-in-48
+returns-in-48 c = sym (ap longest (paper_048 c.args.cat c.in-48.is).0 ∙ numbers_048.1)
+
+pub returns-in-21 : goal.returns-in-21
+returns-in-21 c = sym (ap longest (paper_021 c.args.cat c.in-21.is).0 ∙ numbers_021.1)
+
+pub returns-in-7 : goal.returns-in-7
+returns-in-7 c = sym (ap longest (paper_007 c.args.cat c.in-7.is).0 ∙ numbers_007.1)
+
+pub returns-in_default : goal.returns-in_default
+returns-in_default c =
+    sym (ap longest (paper_none c.args.cat c.in_default.in_default-own.rest.0.0.1 c.in_default.in_default-own.rest.0.1 c.in_default.in_default-own.rest.1).0 ∙ numbers_none.1)

@@ -1,0 +1,17 @@
+-- `layout::which_number` meets its contract. Assumes nothing.
+use mathlib.Core.Path.{refl}
+use borrow.Author.Rules.{rules}
+use Rattle.layout.specs.Answer.{which_number}
+use Rattle.layout.proofs.which_number.Goals as goal
+
+pub returns-in-Neither : goal.returns-in-Neither
+unfolding which_number
+returns-in-Neither c = rw c.in-Neither.is refl
+
+pub returns-in-Base : goal.returns-in-Base
+unfolding which_number
+returns-in-Base c = rw c.in-Base.is refl
+
+pub returns-in-Correction : goal.returns-in-Correction
+unfolding which_number
+returns-in-Correction c = rw c.in-Correction.is refl
