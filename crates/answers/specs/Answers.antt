@@ -14,7 +14,7 @@ use Rattle.scope.specs.Desk.{edit_of}
 use Rattle.scope.specs.Visitors.{copy_of}
 use Rattle.words.specs.Numbers.{value_in}
 use Rattle.guess.specs.Guess.{rebuild_of}
-use Rattle.hex.specs.Octets.{octets_in, list_in}
+use Rattle.hex_words.specs.Octets.{octets_in, list_in}
 use Rattle.protocol.specs.Line.{words_of, nth}
 use Rattle.protocol.specs.Forms.{parse_of}
 use Rattle.protocol.specs.Record.{record_in}

@@ -28,7 +28,7 @@ use Rattle.text.specs.Hex.{capital, pair_text, pairs_text, hex_text}
 use Rattle.words.specs.Numbers.{leads, goes_on, is_number, number_in, is_signed, signed_value, signed_in, value_in}
 use Rattle.guess.specs.Lines.{before_octet, behind_octet, behind_feeds}
 use Rattle.guess.specs.Guess.{value_in as lineValue, fits_piece, piece_in, bounded_in, lines_for, behind_keys, numbers_in, taken_lines, left_lines, begins, key_text, head_of, open_in, bit, bits, count_in, behind_count, there_in, keys_in, item_numbers, item_in, item_left, row_in, names_in, indicator_of, indicator_in, category_of, category_in, length_in, contents_in, guess_of, sheet_with, first_wrong as firstWrongLine, given_of, rebuild_of}
-use Rattle.hex.specs.Octets.{hex_digit, are_hex, is_octets, octet_of, octets_of, octets_in, is_list, list_in}
+use Rattle.hex_words.specs.Octets.{hex_digit, are_hex, is_octets, octet_of, octets_of, octets_in, is_list, list_in}
 use Rattle.protocol.specs.Line.{glued, words_of, same}
 use Rattle.protocol.specs.Forms.{fits, forms, first_wrong, judged_as, judged_by, parse_of}
 use Rattle.replies.specs.Texts.{next, next_signed, next_octets, bad_request, refusal_text, output_text, rebuilt_text, given_text, shown_text, view_text, choice_in, choice_text, words_text, record_text, read_in, reading_text, in_line, line_octet, sheet_text}

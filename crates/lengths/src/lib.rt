@@ -5,7 +5,7 @@ ghost use Rattle.codec.proofs.Laws.Arms.{Past};
 ghost use Rattle.lengths.specs.Lines.{placed_at, format_of, lengths, pieces};
 
 // The format of a line, a chain part or a subfield.
-#[derive(Drop)]
+#[derive(Clone, Copy)]
 pub struct Format {
     // How many octets it has, and which bits of them are spare.
     pub octets: usize,
@@ -25,7 +25,7 @@ pub struct Format {
 // The table of item and subfield lengths, beside the papers: of each chain part and subfield its octets, and its mask, the spare bits in the order in which the
 // paper prints its bits, an octet's together. Behind it stand the document and section of each paper that prints it, its item, and its part or its subfield's
 // number and name. An item's chain parts come first.
-#[derive(Drop)]
+#[derive(Clone, Copy)]
 struct Length(usize, u64);
 
 const LENGTHS: [Length; 46] = [
@@ -78,7 +78,7 @@ const LENGTHS: [Length; 46] = [
 ];
 
 // The same lines by their pieces, in the order of the fields of a format: pieces, runs, bits below, first slot, flag.
-#[derive(Drop)]
+#[derive(Clone, Copy)]
 struct Pieces(u64, usize, u64, usize, usize);
 
 const PIECES: [Pieces; 46] = [

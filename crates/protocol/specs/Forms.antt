@@ -4,7 +4,7 @@ use Rattle.codec.specs.Pick.{pick}
 use Rattle.papers.specs.Names.{text}
 use Rattle.papers.specs.Papers.{SLOTS}
 use Rattle.words.specs.Numbers.{is_number, is_signed}
-use Rattle.hex.specs.Octets.{is_octets, is_list}
+use Rattle.hex_words.specs.Octets.{is_octets, is_list}
 use Rattle.protocol.specs.Line.{words_of, nth, same, places_from}
 use Rattle.protocol.specs.declared.Judged.{Judged}
 use Rattle.protocol.specs.declared.Judged.TheVariants.{Asks, Wrong}

@@ -5,7 +5,7 @@ use Rattle.papers.specs.Names.{text}
 use Rattle.text.specs.Decimals.{value_from, value_of, is_digit}
 use Rattle.text.specs.Laws.Decimals.{are_digits}
 use Rattle.words.specs.Numbers.{leads, goes_on, is_number, is_signed}
-use Rattle.hex.specs.Octets.{hex_digit, are_hex, is_octets, is_list}
+use Rattle.hex_words.specs.Octets.{hex_digit, are_hex, is_octets, is_list}
 use Rattle.protocol.specs.Line.{glued, words_of, same}
 use Rattle.protocol.specs.Forms.{fits, forms, first_wrong, judged_as, judged_by, parse_of}
 use Rattle.protocol.specs.declared.Judged.{Judged}

@@ -63,8 +63,8 @@ fn fits(kind: u8, word: &[u8]) -> bool
 {
     match kind {
         b'C' => words::number(word, 255) < 256,
-        b'O' => hex::is_octets(word),
-        b'L' => hex::is_list(word),
+        b'O' => hex_words::is_octets(word),
+        b'L' => hex_words::is_list(word),
         b'I' => words::number(word, 255) < 256,
         b'R' => words::number(word, 300) < 301,
         b'B' => words::number(word, 255) < 256,

@@ -128,7 +128,7 @@ fn read(line: &[u8], starts: &[usize; 10], buf: &mut [u8; 4096]) -> usize
 {
     let mut field = blank();
     let cat = words::small(word(line, starts, 1));
-    let n = hex::octets(word(line, starts, 2), &mut field);
+    let n = hex_words::octets(word(line, starts, 2), &mut field);
     let reading = reader::read(cat, &field[..n]);
     replies::reading_text(reading, &mut *buf)
 }
@@ -148,7 +148,7 @@ fn sheet(line: &[u8], starts: &[usize; 10], buf: &mut [u8; 4096]) -> usize
 {
     let mut field = blank();
     let cat = words::small(word(line, starts, 1));
-    let n = hex::octets(word(line, starts, 2), &mut field);
+    let n = hex_words::octets(word(line, starts, 2), &mut field);
     listed(cat, &field[..n], &mut *buf)
 }
 
@@ -157,7 +157,7 @@ fn view(line: &[u8], starts: &[usize; 10], buf: &mut [u8; 4096]) -> usize
 {
     let mut field = blank();
     let cat = words::small(word(line, starts, 1));
-    let n = hex::octets(word(line, starts, 2), &mut field);
+    let n = hex_words::octets(word(line, starts, 2), &mut field);
     let item = words::small(word(line, starts, 3));
     viewed(cat, &field[..n], item, &mut *buf)
 }
@@ -168,8 +168,8 @@ fn choose(line: &[u8], starts: &[usize; 10], buf: &mut [u8; 4096]) -> usize
     let mut base = blank();
     let mut correction = blank();
     let cat = words::small(word(line, starts, 1));
-    let n = hex::octets(word(line, starts, 2), &mut base);
-    let m = hex::octets(word(line, starts, 3), &mut correction);
+    let n = hex_words::octets(word(line, starts, 2), &mut base);
+    let m = hex_words::octets(word(line, starts, 3), &mut correction);
     let item = words::small(word(line, starts, 4));
     chosen(cat, &base[..n], &correction[..m], item, &mut *buf)
 }
@@ -180,8 +180,8 @@ fn remove(line: &[u8], starts: &[usize; 10], buf: &mut [u8; 4096]) -> usize
     let mut field = blank();
     let mut out = output();
     let cat = words::small(word(line, starts, 1));
-    let n = hex::octets(word(line, starts, 2), &mut field);
-    let list = hex::list(word(line, starts, 3));
+    let n = hex_words::octets(word(line, starts, 2), &mut field);
+    let list = hex_words::list(word(line, starts, 3));
     let item = words::small(word(line, starts, 4));
     let room = words::room(word(line, starts, 5));
     removed(cat, &field[..n], list, item, &mut out[..room], &mut *buf)
@@ -194,10 +194,10 @@ fn replace(line: &[u8], starts: &[usize; 10], buf: &mut [u8; 4096]) -> usize
     let mut new = blank();
     let mut out = output();
     let cat = words::small(word(line, starts, 1));
-    let n = hex::octets(word(line, starts, 2), &mut field);
-    let list = hex::list(word(line, starts, 3));
+    let n = hex_words::octets(word(line, starts, 2), &mut field);
+    let list = hex_words::list(word(line, starts, 3));
     let item = words::small(word(line, starts, 4));
-    let m = hex::octets(word(line, starts, 5), &mut new);
+    let m = hex_words::octets(word(line, starts, 5), &mut new);
     let room = words::room(word(line, starts, 6));
     replaced(
         cat,
@@ -216,8 +216,8 @@ fn copy(line: &[u8], starts: &[usize; 10], buf: &mut [u8; 4096]) -> usize
     let mut field = blank();
     let mut out = output();
     let cat = words::small(word(line, starts, 1));
-    let n = hex::octets(word(line, starts, 2), &mut field);
-    let withheld = hex::list(word(line, starts, 3));
+    let n = hex_words::octets(word(line, starts, 2), &mut field);
+    let withheld = hex_words::list(word(line, starts, 3));
     let room = words::room(word(line, starts, 4));
     copied(cat, &field[..n], withheld, &mut out[..room], &mut *buf)
 }
@@ -227,7 +227,7 @@ fn rebuild(line: &[u8], starts: &[usize; 10], buf: &mut [u8; 4096]) -> usize
 {
     let mut text = blank();
     let mut out = output();
-    let n = hex::octets(word(line, starts, 1), &mut text);
+    let n = hex_words::octets(word(line, starts, 1), &mut text);
     let room = words::room(word(line, starts, 2));
     rebuilt(&text[..n], &mut out[..room], &mut *buf)
 }

@@ -6,7 +6,7 @@ ghost use Rattle.codec.proofs.Laws.Arms.{Past};
 ghost use Rattle.shapes.specs.Shapes.{shapes, shape_at};
 
 // The first line of an item, the parts of its chain, 0 for one subfield without a chain, and its subfields.
-#[derive(Drop)]
+#[derive(Clone, Copy)]
 pub struct Shape(pub usize, pub usize, pub usize);
 
 const SHAPES: [Shape; 14] = [

@@ -8,7 +8,7 @@ ghost use Rattle.spots.specs.Spots.{spots, spot_at, spot_of};
 use layout::{Cat021, Cat048};
 
 // Which item it is, and the slot where its numbers begin.
-#[derive(Drop)]
+#[derive(Clone, Copy)]
 pub struct Spot(pub u8, pub u8);
 
 // The items of each category, in the order of their bits.

@@ -33,7 +33,7 @@ use Rattle.words.specs.Numbers.{value_in}
 use Rattle.words.specs.Laws.Numbers.{value_most}
 use Rattle.guess.specs.Guess.{rebuild_of}
 use Rattle.guess.proofs.Laws.Rebuilt.{rebuilt_few}
-use Rattle.hex.specs.Octets.{is_octets, octet_of, octets_of, octets_in, list_in}
+use Rattle.hex_words.specs.Octets.{is_octets, octet_of, octets_of, octets_in, list_in}
 use Rattle.protocol.specs.Line.{words_of, nth}
 use Rattle.protocol.specs.Forms.{parse_of}
 use Rattle.protocol.specs.Record.{record_in}

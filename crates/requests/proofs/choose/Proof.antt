@@ -2,8 +2,8 @@
 use mathlib.Core.Path.{ap, ◌∙◌}
 use native.Mathlib.Omega.{arith}
 use Rattle.words.specs.Numbers.{value_in}
-use Rattle.hex.specs.Octets.{octets_in}
-use Rattle.hex.specs.Laws.Octets.{octets_taken, octets_counted, octets_held}
+use Rattle.hex_words.specs.Octets.{octets_in}
+use Rattle.hex_words.specs.Laws.Octets.{octets_taken, octets_counted, octets_held}
 use Rattle.requests.specs.Laws.Requests.{word_in, choose_said}
 use Rattle.requests.proofs.choose.Statement.{statement}
 use Rattle.requests.proofs.choose.Tie as tie

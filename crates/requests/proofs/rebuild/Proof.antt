@@ -2,8 +2,8 @@
 use mathlib.Core.Path.{ap, ◌∙◌}
 use native.Mathlib.Omega.{arith}
 use Rattle.words.specs.Numbers.{value_in}
-use Rattle.hex.specs.Octets.{octets_in}
-use Rattle.hex.specs.Laws.Octets.{octets_taken, octets_counted, octets_held}
+use Rattle.hex_words.specs.Octets.{octets_in}
+use Rattle.hex_words.specs.Laws.Octets.{octets_taken, octets_counted, octets_held}
 use Rattle.requests.specs.Laws.Requests.{word_in, room_held, room_counted, room_is, rebuild_said}
 use Rattle.requests.proofs.rebuild.Statement.{statement}
 use Rattle.requests.proofs.rebuild.Tie as tie

@@ -22,7 +22,7 @@ use Rattle.words.specs.Lines.{word_of}
 use Rattle.words.specs.Numbers.{value_in}
 use Rattle.words.specs.Laws.Numbers.{value_most}
 use Rattle.guess.specs.Guess.{rebuild_of}
-use Rattle.hex.specs.Octets.{octets_in, list_in}
+use Rattle.hex_words.specs.Octets.{octets_in, list_in}
 use Rattle.protocol.specs.Line.{words_of, nth, words_at, places_from}
 use Rattle.protocol.specs.Forms.{forms, judged_by, parse_of}
 use Rattle.protocol.specs.Record.{record_in, record_at}
