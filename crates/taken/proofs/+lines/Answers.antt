@@ -12,7 +12,9 @@ use Rattle.taken.specs.Laws.Lines.{lines_none, first_room, rest_asks, lines_step
 use Rattle.taken.proofs.+lines.Goals as goal
 
 pub returns-then-left-eq0 : goal.returns-then-left-eq0
-returns-then-left-eq0 t c = let a = c.args in lines_none a.b a.left a.n a.base a.t.now a.out.now c.if-left-eq0.true
+returns-then-left-eq0 t c = let a = c.args in
+    let all = lines_none a.b a.left a.n a.base a.t.now a.out.now c.if-left-eq0.true in
+    record { behind = all.0; kept = all.1 }
 
 pub is_there-requires : goal.is_there-requires
 is_there-requires t c = tt
@@ -38,8 +40,9 @@ pub returns-then-is_there : goal.returns-then-is_there
 returns-then-is_there t c =
     let a = c.args in
     let u = a.t.now in
-    lines_step a.b a.left c.if-left-eq0.false a.n u c.is_there.ensures (c.line-next.ensures.behind ∙ ap (λ x. pick x (behind_at a.b u) u) (sym c.if-is_there.true)) c.less.ensures c.requires.1 a.base a.out.now
-    (c.line-next.ensures.kept ∙ ap (λ x. sets a.out.now (a.base + first_at a.b) (taken_at a.b (pick x u []))) (sym c.if-is_there.true)) c.lines.ensures
+    let all = lines_step a.b a.left c.if-left-eq0.false a.n u c.is_there.ensures (c.line-next.ensures.behind ∙ ap (λ x. pick x (behind_at a.b u) u) (sym c.if-is_there.true)) c.less.ensures c.requires.1 a.base a.out.now
+    (c.line-next.ensures.kept ∙ ap (λ x. sets a.out.now (a.base + first_at a.b) (taken_at a.b (pick x u []))) (sym c.if-is_there.true)) (c.lines.ensures.behind, c.lines.ensures.kept) in
+    record { behind = all.0; kept = all.1 }
 
 pub slice_bounds-line-end : goal.slice_bounds-line-end
 slice_bounds-line-end t c = search
@@ -65,5 +68,6 @@ pub returns : goal.returns
 returns t c =
     let a = c.args in
     let u = a.t.now in
-    lines_step a.b a.left c.if-left-eq0.false a.n u c.is_there.ensures (ap (λ x. pick x (behind_at a.b u) u) (sym c.if-is_there.false)) c.less-2.ensures c.requires.1 a.base a.out.now
-    (c.line.ensures.kept ∙ ap (λ x. sets a.out.now (a.base + first_at a.b) (taken_at a.b (pick x u []))) (sym c.if-is_there.false)) c.lines-2.ensures
+    let all = lines_step a.b a.left c.if-left-eq0.false a.n u c.is_there.ensures (ap (λ x. pick x (behind_at a.b u) u) (sym c.if-is_there.false)) c.less-2.ensures c.requires.1 a.base a.out.now
+    (c.line.ensures.kept ∙ ap (λ x. sets a.out.now (a.base + first_at a.b) (taken_at a.b (pick x u []))) (sym c.if-is_there.false)) (c.lines-2.ensures.behind, c.lines-2.ensures.kept) in
+    record { behind = all.0; kept = all.1 }

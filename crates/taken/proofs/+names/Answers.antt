@@ -15,6 +15,7 @@ use Rattle.walk.specs.Lines.{words_in}
 use Rattle.taken.specs.Laws.Tables.{name_of, name_word}
 use Rattle.taken.specs.Laws.Names.{names_none, names_there, names_absent, comma_other, name_other}
 use Rattle.taken.proofs.+names.Goals as goal
+use Rattle.taken.proofs.+names.Goals.{then-opens+else-opens-2, else-opens}
 
 octet_lt : {x : ℕ} → Fits w8 x → x < 256
 octet_lt f = f.fits
@@ -28,44 +29,16 @@ returns-then-left-eq0 t c =
     let a = c.args in
     names_none a.items a.i a.comma a.k a.left a.w.now (octet_lt c.ranges.items) c.if-left-eq0.true
 
-pub front-before-requires : goal.front-before-requires
-front-before-requires t c = tt
-
-pub opens-requires : goal.opens-requires
-opens-requires t c = tt
-
-pub spot_at-spot-requires : goal.spot_at-spot-requires
-spot_at-spot-requires t c = tt
-
-pub wide-requires : goal.wide-requires
-wide-requires t c = tt
-
-pub word-name-requires : goal.word-name-requires
-word-name-requires t c = tt
-
-pub past-rest-requires : goal.past-rest-requires
-past-rest-requires t c = tt
-
-pub opens-requires-then-opens : goal.opens-requires-then-opens
-opens-requires-then-opens t c = tt
-
-pub with_item-with-requires : goal.with_item-with-requires
-with_item-with-requires t c = tt
-
-pub past-requires : goal.past-requires
-past-requires t c = tt
-
 pub overflow_add-k : goal.overflow_add-k
 overflow_add-k t c = let g = c.requires in Fits-of_lt (omega (arith, g))
 
 pub overflow_add-i : goal.overflow_add-i
 overflow_add-i t c = let g = c.requires in Fits-of_lt (omega (arith, g))
 
-pub overflow_sub-left : goal.overflow_sub-left
-overflow_sub-left t c = omega (arith, c.if-left-eq0.false)
-
 pub names-requires : goal.names-requires
-names-requires t c = rest_asked t c
+names-requires t c = 
+    let f = c.if-left-eq0.false in
+    (omega (arith, c.decreases, f), (omega (arith, c.requires, f), omega (arith, c.requires, f)))
 
 pub returns-then-opens-2 : goal.returns-then-opens-2
 returns-then-opens-2 t c =
@@ -79,24 +52,22 @@ overflow_add-k-2 t c = let g = c.requires in Fits-of_lt (omega (arith, g))
 pub overflow_add-i-2 : goal.overflow_add-i-2
 overflow_add-i-2 t c = let g = c.requires in Fits-of_lt (omega (arith, g))
 
-pub overflow_sub-left-2 : goal.overflow_sub-left-2
-overflow_sub-left-2 t c = omega arith
-
-pub without_item-requires : goal.without_item-requires
-without_item-requires t c = tt
-
 pub names-requires-2 : goal.names-requires-2
-names-requires-2 t c = rest_asked t c
+names-requires-2 t c = 
+    let f = c.if-left-eq0.false in
+    (omega (arith, c.decreases, f), (omega (arith, c.requires, f), omega (arith, c.requires, f)))
 
 pub returns : goal.returns
 returns t c =
     let a = c.args in
-    let w = a.w.now in
+    let text = a.w.now in
     let low = octet_lt c.ranges.items in
     let few : a.i < 8 = omega (arith, c.requires, c.if-left-eq0.false) in
-    names_absent a.items a.i a.comma a.k a.left w low c.if-left-eq0.false few
-    (⊎_elim
-    (λ g. name_other a.items a.i a.comma a.k a.left w low c.if-left-eq0.false few c.front-before.ensures g.6.ensures
-    (name_word _ names_are g.4.result g.5.ensures ∙ ap (λ k. (named_at k).name) (g.4.ensures.0 ∙ ap (λ (z : Spot). z.0) g.1.ensures)) (sym g.8.left ∙ g.7.ensures))
-    (λ g. comma_other a.items a.i a.comma a.k a.left w low c.if-left-eq0.false few c.front-before.ensures (sym g.left ∙ c.opens.ensures))
-    c.if-opens.branch) c.without_item.ensures c.names-2.ensures
+    names_absent a.items a.i a.comma a.k a.left text low c.if-left-eq0.false few
+    (elim c.if-opens.branch [
+      then-opens+else-opens-2 w ↦
+          name_other a.items a.i a.comma a.k a.left text low c.if-left-eq0.false few c.front-before.ensures w.past-rest.ensures
+          (name_word _ names_are w.wide.result w.word-name.ensures ∙ ap (λ k. (named_at k).name) (w.wide.ensures.0 ∙ ap (λ (z : Spot). z.0) w.spot_at-spot.ensures))
+          (sym w.if-opens-2.false ∙ w.opens-then-opens.ensures)
+      | else-opens w ↦ comma_other a.items a.i a.comma a.k a.left text low c.if-left-eq0.false few c.front-before.ensures (sym w.if-opens.false ∙ c.opens.ensures)
+    ]) c.without_item.ensures c.names-2.ensures

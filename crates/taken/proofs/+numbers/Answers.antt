@@ -11,7 +11,8 @@ use Rattle.taken.proofs.+numbers.Goals as goal
 pub returns-then-left-eq0 : goal.returns-then-left-eq0
 returns-then-left-eq0 t c =
     let a = c.args in
-    numbers_none a.step a.left a.code a.t.now a.out.now a.slot c.if-left-eq0.true
+    let all = numbers_none a.step a.left a.code a.t.now a.out.now a.slot c.if-left-eq0.true in
+    record { behind = all.0; kept = all.1 }
 
 pub overflow_sub-left : goal.overflow_sub-left
 overflow_sub-left t c = omega arith
@@ -23,7 +24,8 @@ numbers-requires t c =
 pub returns-then-kind-eq0 : goal.returns-then-kind-eq0
 returns-then-kind-eq0 t c =
     let a = c.args in
-    spare_on a.left a.code c.if-left-eq0.false c.if-kind-eq0.true a.step a.t.now a.out.now a.slot c.numbers.ensures
+    let all = spare_on a.left a.code c.if-left-eq0.false c.if-kind-eq0.true a.step a.t.now a.out.now a.slot (c.numbers.ensures.behind, c.numbers.ensures.kept) in
+    record { behind = all.0; kept = all.1 }
 
 pub piece-requires : goal.piece-requires
 piece-requires t c =
@@ -52,4 +54,5 @@ pub returns : goal.returns
 returns t c =
     let a = c.args in
     let z = to_z-of_z {w = w32} {z = c.piece.result} (sfits_of c.piece.type_inv) in
-    num_on a.left a.code c.if-left-eq0.false c.if-kind-eq0.false a.step a.t.now a.out.now a.slot c.piece.ensures (c.put.ensures ∙ rw z refl) c.skip.ensures c.numbers-2.ensures
+    let all = num_on a.left a.code c.if-left-eq0.false c.if-kind-eq0.false a.step a.t.now a.out.now a.slot c.piece.ensures (c.put.ensures ∙ rw z refl) c.skip.ensures (c.numbers-2.ensures.behind, c.numbers-2.ensures.kept) in
+    record { behind = all.0; kept = all.1 }

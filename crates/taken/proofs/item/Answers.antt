@@ -16,7 +16,8 @@ lines-requires c =
 pub returns-then-most-eq0 : goal.returns-then-most-eq0
 returns-then-most-eq0 c =
     let a = c.args in
-    item_single a.k c.shape_at-shape.ensures a.base a.t.now a.out.now c.if-most-eq0.true c.lines.ensures
+    let all = item_single a.k c.shape_at-shape.ensures a.base a.t.now a.out.now c.if-most-eq0.true (c.lines.ensures.behind, c.lines.ensures.kept) in
+    record { behind = all.0; kept = all.1 }
 
 pub parts-there-requires : goal.parts-there-requires
 parts-there-requires c = omega (arith, (shaped-well c.args.k c.shape_at-shape.ensures).few)
@@ -31,7 +32,8 @@ lines-requires-then-shape-eq0 c =
 pub returns-then-shape-eq0 : goal.returns-then-shape-eq0
 returns-then-shape-eq0 c =
     let a = c.args in
-    item_parts a.k c.shape_at-shape.ensures a.base a.t.now a.out.now c.if-most-eq0.false c.parts-there.ensures c.behind_parts-rest.ensures c.if-shape-eq0.true c.lines-then-shape-eq0.ensures
+    let all = item_parts a.k c.shape_at-shape.ensures a.base a.t.now a.out.now c.if-most-eq0.false c.parts-there.ensures c.behind_parts-rest.ensures c.if-shape-eq0.true (c.lines-then-shape-eq0.ensures.behind, c.lines-then-shape-eq0.ensures.kept) in
+    record { behind = all.0; kept = all.1 }
 
 pub overflow_add-b : goal.overflow_add-b
 overflow_add-b c =
@@ -61,4 +63,5 @@ lines-requires-2 c =
 pub returns : goal.returns
 returns c =
     let a = c.args in
-    item_subfields a.k c.shape_at-shape.ensures a.base a.t.now a.out.now c.if-most-eq0.false c.parts-there.ensures c.behind_parts-rest.ensures c.if-shape-eq0.false c.first_of-n.ensures c.flags.ensures c.lines-2.ensures
+    let all = item_subfields a.k c.shape_at-shape.ensures a.base a.t.now a.out.now c.if-most-eq0.false c.parts-there.ensures c.behind_parts-rest.ensures c.if-shape-eq0.false c.first_of-n.ensures c.flags.ensures (c.lines-2.ensures.behind, c.lines-2.ensures.kept) in
+    record { behind = all.0; kept = all.1 }

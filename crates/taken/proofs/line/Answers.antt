@@ -23,4 +23,5 @@ numbers-requires c =
 pub returns : goal.returns
 returns c =
     let a = c.args in
-    line_gives a.b c.format_of-format.ensures a.base c.step_of.ensures a.t.now a.out.now c.numbers.ensures
+    let all = line_gives a.b c.format_of-format.ensures a.base c.step_of.ensures a.t.now a.out.now (c.numbers.ensures.behind, c.numbers.ensures.kept) in
+    record { behind = all.0; kept = all.1 }

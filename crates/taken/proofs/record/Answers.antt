@@ -40,4 +40,4 @@ row-requires c =
 
 pub returns : goal.returns
 returns c =
-    record_is c.args.text.now c.category-cat.ensures c.spot_of-first.ensures c.items_of-n.ensures c.skip-t.ensures c.value.ensures c.names-items.ensures c.next.ensures c.row.ensures
+    record_is c.args.text.now c.category-cat.ensures c.spot_of-first.ensures c.items_of-n.ensures c.skip-t.ensures c.value.ensures c.names-items.ensures c.next.ensures (c.row.ensures.counts, c.row.ensures.kept)
