@@ -1,0 +1,16 @@
+use mathlib.Core.Path.{◌≡◌, refl, sym, ap, ◌∙◌}
+use Prim.Native.Nat.{◌+◌, ◌-◌, ◌≤◌}
+use native.Mathlib.Omega.{arith}
+use borrow.Author.Tests.{not-true, not-false}
+use lib.ListN.{length, get_or, drop}
+use Rattle.words.specs.Lines.{word_of}
+use Rattle.protocol.specs.Line.{words_of, words_at}
+use Rattle.protocol.specs.Forms.{fits, first_wrong}
+use Rattle.protocol.specs.Laws.Forms.{wrong_missing, wrong_here, wrong_more, wrong_none, wrong_over, wrong_start}
+use Rattle.protocol.proofs.first_wrong.Given as goal
+
+abbrev pub invariant-loop-k : goal.invariant-loop-k
+invariant-loop-k l = (l.k ≤ length l.kinds) × (first_wrong l.kinds (drop 1 (words_of l.line)) 2 ≡ first_wrong (drop l.k l.kinds) (words_at l.line l.at) (l.k + 2))
+
+abbrev pub decreases-loop-k : goal.decreases-loop-k
+decreases-loop-k l = length l.kinds - l.k

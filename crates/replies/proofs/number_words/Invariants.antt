@@ -1,0 +1,18 @@
+use Prim.Native.Nat.{◌-◌, ◌≤◌}
+use native.Mathlib.Omega.{arith}
+use borrow.Author.Rules.{rules, sfits_of}
+use lib.IntN.{pos}
+use lib.ListN.{length, take, get_or}
+use mir.Syntax.{w32, w64}
+use mir.Val.{SFits}
+use mir.Facts.{to_z-of_z, sfits_widen}
+use Rattle.text.specs.Typing.{Types}
+use Rattle.replies.specs.Texts.{next_signed, words_text}
+use Rattle.replies.specs.Laws.Typed.{words_none, words_more, words_whole}
+use Rattle.replies.proofs.number_words.Given as goal
+
+abbrev pub invariant-loop-i : goal.invariant-loop-i
+invariant-loop-i l = (l.i ≤ length l.numbers) × Types (words_text next_signed (take l.i l.numbers)) l.initial.buf l.at l.buf l.end
+
+abbrev pub decreases-loop-i : goal.decreases-loop-i
+decreases-loop-i l = length l.numbers - l.i

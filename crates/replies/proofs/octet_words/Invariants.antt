@@ -1,0 +1,13 @@
+use Prim.Native.Nat.{◌-◌, ◌≤◌}
+use native.Mathlib.Omega.{arith}
+use lib.ListN.{length, take}
+use Rattle.text.specs.Typing.{Types}
+use Rattle.replies.specs.Texts.{next, words_text}
+use Rattle.replies.specs.Laws.Typed.{words_none, words_more, words_whole}
+use Rattle.replies.proofs.octet_words.Given as goal
+
+abbrev pub invariant-loop-i : goal.invariant-loop-i
+invariant-loop-i l = (l.i ≤ length l.octets) × Types (words_text next (take l.i l.octets)) l.initial.buf l.at l.buf l.end
+
+abbrev pub decreases-loop-i : goal.decreases-loop-i
+decreases-loop-i l = length l.octets - l.i

@@ -1,0 +1,10 @@
+-- `replies::refusal` meets its contract: the words stand one behind the other. Assumes nothing.
+use borrow.Author.Rules.{rules}
+use Rattle.text.specs.Laws.Typing.{types_behind}
+use Rattle.replies.specs.Texts.{refusal_text}
+use Rattle.replies.proofs.refusal.Goals as goal
+
+pub returns : goal.returns
+unfolding refusal_text
+returns c =
+    types_behind c.word-number.ensures (types_behind c.next-at.ensures c.next.ensures)
