@@ -11,7 +11,7 @@ use Rattle.codec.specs.Codec.{Octets}
 use Rattle.codec.specs.Field.{flags, Contents, body}
 use Rattle.codec.specs.Frame.{Outcome, accepted, refused, read_frame}
 use Rattle.codec.specs.Meaning.{len_of}
-use Rattle.codec.specs.Change.{Change, put, set_flag, alone, put_in, change}
+use Rattle.codec.specs.Change.{Change, put, set_flag, alone, put_in, change, remove}
 use Rattle.codec.proofs.Laws.Tests.{and_in, and_l, and_r, holds, fails}
 use Rattle.codec.proofs.Laws.Alone.{flag_printed}
 use Rattle.codec.proofs.Laws.Change.{set_flag_lt, new_octets}
@@ -138,6 +138,7 @@ alone_octets i t hi hl o =
 module _ (cat item : ℕ) (r : Contents) (k : T (known cat)) (t : T (numbered cat item)) where
   wrong_new : (ch : Change) → Octets (new_octets ch) → WrongNew cat item ch → change (paper_of cat) (item - 1) ch r ≡ refused 14 0
   unfolding change put_in new_octets
+  wrong_new remove on w = elim w [ ]
   wrong_new (put x) on no_octets = refl
   wrong_new (put x) on (too_many h) = rw (lt-leb (length x) 253 h) (both (leb 1 (length x)))
     where

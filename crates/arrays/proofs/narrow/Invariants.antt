@@ -1,0 +1,17 @@
+use mathlib.Core.Path.{◌≡◌, refl, ap, ◌∙◌}
+use mathlib.Core.List.{map}
+use Prim.Native.Nat.{◌-◌, ◌≤◌}
+use native.Mathlib.Omega.{arith}
+use borrow.Author.Rules.{rules, sfits_of}
+use lib.IntN.{pos}
+use lib.ListN.{length, length-set}
+use mir.Facts.{to_z-of_z}
+use Rattle.interface.specs.Arrays.{octet_of}
+use Rattle.interface.proofs.Laws.Copies.{copied, mapped_more, mapped_all}
+use Rattle.arrays.proofs.narrow.Given as goal
+
+abbrev pub invariant-loop-i : goal.invariant-loop-i
+invariant-loop-i l = (l.i ≤ length l.numbers) × (l.octets ≡ copied l.i (map octet_of l.numbers) l.initial.octets) × (length l.octets ≡ length l.initial.octets)
+
+abbrev pub decreases-loop-i : goal.decreases-loop-i
+decreases-loop-i l = length l.numbers - l.i

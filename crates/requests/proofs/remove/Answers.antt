@@ -1,0 +1,35 @@
+-- `requests::remove` meets its contract: each word by its kind, and the edit. Assumes nothing.
+use mathlib.Core.Path.{ap, ◌∙◌}
+use native.Mathlib.Omega.{arith}
+use Rattle.words.specs.Numbers.{value_in}
+use Rattle.hex_words.specs.Octets.{octets_in, list_in}
+use Rattle.hex_words.specs.Laws.Octets.{octets_taken, octets_counted, octets_held}
+use Rattle.requests.specs.Laws.Requests.{word_in, room_held, room_counted, room_is, remove_said}
+use Rattle.requests.proofs.remove.Goals as goal
+
+pub slice_bounds-field-end : goal.slice_bounds-field-end
+slice_bounds-field-end c =
+    octets_held _ _ c.blank-field.ensures c.octets-n.ensures
+
+pub slice_bounds-removed-end : goal.slice_bounds-removed-end
+slice_bounds-removed-end c =
+    octets_counted _ _ c.blank-field.ensures c.octets-n.ensures
+
+pub slice_bounds-out-end : goal.slice_bounds-out-end
+slice_bounds-out-end c =
+    room_held _ c.output-out.result c.output-out.ensures c.room-room.ensures
+
+pub slice_bounds-removed-end-2 : goal.slice_bounds-removed-end-2
+slice_bounds-removed-end-2 c =
+    room_counted _ c.output-out.result c.output-out.ensures c.room-room.ensures
+
+pub returns : goal.returns
+returns c =
+    let a = c.args in
+    remove_said (word_in a.line.now a.starts.now)
+    (c.small-cat.ensures ∙ ap (value_in 255) c.word.ensures)
+    (octets_taken _ _ c.blank-field.ensures c.octets-n.ensures ∙ ap octets_in c.word-2.ensures)
+    (c.list-list.ensures ∙ ap list_in c.word-3.ensures)
+    (c.small-item.ensures ∙ ap (value_in 255) c.word-4.ensures)
+    (room_is _ c.output-out.result c.output-out.ensures c.room-room.ensures ∙ ap (value_in 300) c.word-5.ensures)
+    c.removed.ensures

@@ -1,0 +1,7 @@
+-- `requests::written` meets its contract: what the operation left is its outcome. Assumes nothing.
+use borrow.Author.Rules.{rules}
+use Rattle.replies.specs.Laws.Typed.{types_left}
+use Rattle.requests.proofs.written.Goals as goal
+
+pub returns : goal.returns
+returns c = types_left c.write-answer.ensures c.left.ensures
