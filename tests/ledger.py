@@ -47,7 +47,7 @@ PROMISES = [
     ("compare", "`opens`, `first_wrong`"),
     ("taken", "`record`"),
     ("rebuild", "`rebuild`"),
-    ("hex", "`is_octets`, `octets`, `is_list`, `list`"),
+    ("hex_words", "`is_octets`, `octets`, `is_list`, `list`"),
     ("protocol", "`parse`, `record_at`"),
     ("replies", "`bad_request`, `refusal`, `left`, `rebuilt_text`, `view_text`, `choice_text`, `reading_text`, `sheet_text`"),
     ("requests", "`answer`"),
