@@ -30,7 +30,7 @@ fn paste(from: &[u8], at: usize, octets: &mut [u8])
     requires { at + length from.now ≤ length octets.old }
     ensures { octets.new ≡ sets octets.old at from.now }
 {
-    bytes::copy(from, &mut octets[at..]);
+    octets[at..at + from.len()].copy_from_slice(from);
 }
 
 // A field with its octets from a place to another exchanged for new ones, and another indicator.

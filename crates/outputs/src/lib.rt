@@ -1,5 +1,5 @@
 // Octets into the front of an output that is lent (01, 'Writing' and 'The slot desk').
-// Promises: the answer and every octet of the output afterwards; one that is too short is refused by 11, and nothing is written. Stands on the kit's bytes.
+// Promises: the answer and every octet of the output afterwards; one that is too short is refused by 11, and nothing is written. Stands on scope.
 ghost use Rattle.scope.specs.Outputs.{with_room, Leaves};
 ghost use Rattle.std.specs.Prelude.{length};
 
@@ -9,8 +9,10 @@ use layout::Answer;
 pub fn deliver(octets: &[u8], out: &mut [u8]) -> Answer
     ensures { Leaves (with_room (length out.old) octets.now) out.old result out.new }
 {
-    if octets.len() <= out.len() {
-        return Answer::Accepted(bytes::copy(octets, &mut *out));
+    let n = octets.len();
+    if n <= out.len() {
+        out[..n].copy_from_slice(octets);
+        return Answer::Accepted(n);
     }
     Answer::Refused(11, 0)
 }

@@ -34,7 +34,7 @@ pub fn copy(cat: u8, field: &[u8], withheld: u8, out: &mut [u8]) -> Answer
         return a;
     };
     let mut kept = [0u8; 255];
-    bytes::copy(&field[..len], &mut kept);
+    kept[..len].copy_from_slice(&field[..len]);
     let items = layout::items_of(cat);
     let mut item: usize = 1;
     while item <= items {

@@ -33,6 +33,15 @@ paste_is o at s h {m} e =
     ∙ sym (append_assoc (take at o) s (drop (at + length s) o))
     ∙ sym (sets-eq s o at h)
 
+-- a copy into as many as they are from a place on
+pub pasted : (o : List ℕ) (at : ℕ) (s : List ℕ) → at + length s ≤ length o → {m : List ℕ} → m ≡ s → take at o ++ (m ++ drop (at + length s - at) (drop at o)) ≡ sets o at s
+pasted o at s h {m} e =
+    let many : at + length s - at ≡ length s = omega arith in
+    ap₂ (λ xs n. take at o ++ (xs ++ drop n (drop at o))) e many
+    ∙ ap (λ ys. take at o ++ (s ++ ys)) (drop-drop (length s) at o)
+    ∙ sym (append_assoc (take at o) s (drop (at + length s) o))
+    ∙ sym (sets-eq s o at h)
+
 -- xs put from the beginning stand in front
 front_is : (o xs : List ℕ) → length xs ≤ length o → take (length xs) (sets o 0 xs) ≡ xs
 front_is o xs h =

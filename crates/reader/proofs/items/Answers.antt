@@ -1,0 +1,26 @@
+-- `reader::items` meets its contract: one law at each way out. Assumes nothing.
+use mathlib.Core.Path.{sym, ap, ◌∙◌}
+use native.Mathlib.Omega.{arith}
+use borrow.Author.Rules.{rules}
+use lib.ListN.{length}
+use Rattle.codec.specs.Field.{flags}
+use Rattle.papers.specs.Papers.{items_of}
+use Rattle.spots.specs.Spots.{spot_of}
+use Rattle.reader.specs.Places.{surveyed_by}
+use Rattle.reader.specs.Laws.Fields.{spare_clear, spare_set, items_in_lem}
+use Rattle.reader.specs.Laws.Closed.{closed_is}
+use Rattle.reader.proofs.items.Goals as goal
+
+pub row-row-requires : goal.row-row-requires
+row-row-requires c = (omega (arith, c.requires.1), c.requires.0)
+
+pub returns-then-ind-spare_of-eq0 : goal.returns-then-ind-spare_of-eq0
+returns-then-ind-spare_of-eq0 c =
+    let a = c.args in let xs = a.s.now in
+    c.closed.ensures ∙ closed_is (spot_of a.cat) (items_of a.cat) (flags a.ind) xs c.row-row.ensures a.ind (length xs) c.requires.1
+    ∙ ap (surveyed_by (items_of a.cat) (length xs) a.ind) (sym (items_in_lem a.cat a.ind xs (spare_clear a.cat a.ind c.ranges.ind.fits c.spare_of.ensures c.if-ind-spare_of-eq0.true)))
+
+pub returns : goal.returns
+returns c =
+    let a = c.args in let xs = a.s.now in
+    c.unplaced.ensures ∙ ap (surveyed_by (items_of a.cat) (length xs) a.ind) (sym (items_in_lem a.cat a.ind xs (spare_set a.cat a.ind c.ranges.ind.fits c.spare_of.ensures c.if-ind-spare_of-eq0.false)))

@@ -1,0 +1,18 @@
+-- `reader::lines::power` meets its contract: the shift loses nothing. Assumes nothing.
+use mathlib.Core.Path.{◌∙◌}
+use native.Mathlib.Nat.{mod-eq_of_lt, one-mul}
+use native.Mathlib.Omega.{arith}
+use borrow.Author.Rules.{rules}
+use Prim.Native.Nat.{ℕ, ◌*◌, ◌^◌, ◌<◌}
+use native.Mathlib.Nat.{lt_of_le_of_lt}
+use lib.Pow.{pow_mono}
+use Rattle.reader.proofs.lines.power.Goals as goal
+
+under : (w : ℕ) → w < 32 → 1 * 2 ^ w < 2 ^ 64
+under w h = rw (one-mul (2 ^ w)) (lt_of_le_of_lt (pow_mono {i = w} {j = 32} (omega arith)) (omega arith))
+
+pub overflow_shl-result : goal.overflow_shl-result
+overflow_shl-result c = search rules
+
+pub returns : goal.returns
+returns c = mod-eq_of_lt (under c.args.w c.requires) ∙ one-mul _

@@ -1,0 +1,19 @@
+use mathlib.Core.Path.{◌≡◌, refl, sym, ap, ◌∙◌, subst}
+use mathlib.Core.List.{List}
+use Prim.Native.Nat.{◌≤◌, ◌-◌}
+use native.Mathlib.Omega.{arith}
+use borrow.Author.Rules.{rules}
+use lib.IntN.{ℤ}
+use lib.Seq.{sets}
+use mir.Facts.{Fits-of_lt}
+use Rattle.lengths.specs.Lines.{pieces_from}
+use Rattle.reader.specs.Numbers.{nums_at}
+use Rattle.reader.specs.Laws.Taking.{Storing, piece_fits_lem, store_more}
+use Rattle.reader.proofs.numbers.store.Given as goal
+
+abbrev pub invariant-loop-i : goal.invariant-loop-i
+invariant-loop-i l =
+    (l.i ≤ l.runs) × Storing l.initial.numbers (sets l.initial.numbers l.first (nums_at (pieces_from l.runs l.code) l.n l.shift)) l.n l.numbers l.slot (l.runs - l.i) l.rest l.next
+
+abbrev pub decreases-loop-i : goal.decreases-loop-i
+decreases-loop-i l = l.runs - l.i

@@ -1,0 +1,35 @@
+-- `reader::places::md5` meets its contract: one law at each subfield. Assumes nothing.
+use mathlib.Core.Path.{refl, sym}
+use native.Mathlib.Omega.{arith}
+use borrow.Author.Rules.{rules}
+use Rattle.reader.specs.Laws.Tables.{total, cut, to_num, widths, count, nums, slots_of, cat048, cat021, cat007, items, placed_from, placed_in, placed, placed_at, lines_of, item_at, lines_from, parts_ok, flags_under, item_of, item_run, more_from}
+use Rattle.reader.specs.Laws.Items.{item_from}
+use Rattle.reader.specs.Laws.Parts.{Bits, bits, flag_is_bit, one_holds}
+use Rattle.reader.specs.Laws.Looked.{look_chain, look_on}
+use Rattle.reader.specs.Laws.Seen.{ends_same}
+use Rattle.reader.proofs.places.md5.Goals as goal
+
+part_bits : Bits 0 7
+unfolding nums to_num widths cut total placed_at placed placed_in placed_from lines_of items cat048 cat021 cat007
+part_bits = record { part = refl; octet = refl; numbers = λ m. refl }
+
+pub only-part-requires : goal.only-part-requires
+unfolding parts_ok count placed_at placed placed_in placed_from lines_of items cat048 cat021 cat007
+only-part-requires c = (c.requires.0, c.requires.1, tt)
+
+pub returns : goal.returns
+unfolding flags_under item_run item_at item_of more_from lines_from slots_of count cut total placed_at placed placed_in placed_from lines_of items cat048 cat021 cat007
+returns c =
+    let a = c.args in let xs = a.s.now in let f = c.octet_at-f.result in
+    let h0 = look_chain xs (bits 7 f) c.only-part.ensures (rw c.octet_at-f.ensures (one_holds 0 7 part_bits xs a.at)) in
+    let h1 = look_on 1 xs _ h0 (omega arith) (flag_is_bit f 7 0 (omega arith) (omega arith) refl) c.line-sum.ensures in
+    let h2 = look_on 2 xs _ h1 (omega arith) (flag_is_bit f 7 1 (omega arith) (omega arith) refl) c.line-pmn.ensures in
+    let h3 = look_on 3 xs _ h2 (omega arith) (flag_is_bit f 7 2 (omega arith) (omega arith) refl) c.line-pos.ensures in
+    let h4 = look_on 4 xs _ h3 (omega arith) (flag_is_bit f 7 3 (omega arith) (omega arith) refl) c.line-ga.ensures in
+    let h5 = look_on 5 xs _ h4 (omega arith) (flag_is_bit f 7 4 (omega arith) (omega arith) refl) c.line-em1.ensures in
+    let h6 = look_on 6 xs _ h5 (omega arith) (flag_is_bit f 7 5 (omega arith) (omega arith) refl) c.line-tos.ensures in
+    let h7 = look_on 7 xs _ h6 (omega arith) (flag_is_bit f 7 6 (omega arith) (omega arith) refl) c.line.ensures in
+    ends_same h7.ends (sym (item_from 0 0 7 xs a.at tt))
+
+pub line-requires : goal.line-requires
+line-requires c = c.requires.0

@@ -1,0 +1,33 @@
+-- `reader::places::rpc` meets its contract: one law at each subfield. Assumes nothing.
+use mathlib.Core.Path.{refl, sym}
+use native.Mathlib.Omega.{arith}
+use borrow.Author.Rules.{rules}
+use Rattle.reader.specs.Laws.Tables.{total, cut, to_num, widths, count, nums, slots_of, cat048, cat021, cat007, items, placed_from, placed_in, placed, placed_at, lines_of, item_at, lines_from, parts_ok, flags_under, item_of, item_run, more_from}
+use Rattle.reader.specs.Laws.Items.{item_from}
+use Rattle.reader.specs.Laws.Parts.{Bits, bits, flag_is_bit, one_holds}
+use Rattle.reader.specs.Laws.Looked.{look_chain, look_on}
+use Rattle.reader.specs.Laws.Seen.{ends_same}
+use Rattle.reader.proofs.places.rpc.Goals as goal
+
+part_bits : Bits 19 4
+unfolding nums to_num widths cut total placed_at placed placed_in placed_from lines_of items cat048 cat021 cat007
+part_bits = record { part = refl; octet = refl; numbers = λ m. refl }
+
+pub only-part-requires : goal.only-part-requires
+unfolding parts_ok count placed_at placed placed_in placed_from lines_of items cat048 cat021 cat007
+only-part-requires c = (c.requires.0, c.requires.1, tt)
+
+pub returns : goal.returns
+unfolding flags_under item_run item_at item_of more_from lines_from slots_of count cut total placed_at placed placed_in placed_from lines_of items cat048 cat021 cat007
+returns c =
+    let a = c.args in
+    let xs = a.s.now in let f = c.octet_at-f.result in
+    let h0 = look_chain xs (bits 4 f) c.only-part.ensures (rw c.octet_at-f.ensures (one_holds 19 4 part_bits xs a.at)) in
+    let h1 = look_on 20 xs _ h0 (omega arith) (flag_is_bit f 4 0 (omega arith) (omega arith) refl) c.line-sco.ensures in
+    let h2 = look_on 21 xs _ h1 (omega arith) (flag_is_bit f 4 1 (omega arith) (omega arith) refl) c.line-scr.ensures in
+    let h3 = look_on 22 xs _ h2 (omega arith) (flag_is_bit f 4 2 (omega arith) (omega arith) refl) c.line-rw.ensures in
+    let h4 = look_on 23 xs _ h3 (omega arith) (flag_is_bit f 4 3 (omega arith) (omega arith) refl) c.line.ensures in
+    ends_same h4.ends (sym (item_from 19 0 4 xs a.at tt))
+
+pub line-requires : goal.line-requires
+line-requires c = c.requires.0
