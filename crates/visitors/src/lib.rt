@@ -2,7 +2,7 @@
 // Promises: `copy` answers and leaves what scope defines, for every input: the field written afresh without the items on the list, or a refusal that writes
 // nothing. So it tells nothing of what is withheld (demands: Visitors). It promises nothing of how long it takes.
 // Stands on desk, reader and outputs, which it knows by their contracts.
-ghost use Rattle.std.specs.Prelude.{◌≡◌};
+ghost use Rattle.std.specs.Prelude.{◌≡◌, ◌≤◌, ◌++◌, length, take, drop};
 ghost use Rattle.scope.specs.Visitors.{Copied};
 ghost use Rattle.visitors.specs.Passing.{passed_of};
 
@@ -24,6 +24,14 @@ fn passed(cat: u8, kept: [u8; 255], withheld: u8, item: u8) -> [u8; 255]
     kept
 }
 
+// Octets into the front of an array that has room for them.
+fn begin(octets: &[u8], kept: &mut [u8])
+    requires { length octets.now ≤ length kept.old }
+    ensures { kept.new ≡ take (length octets.now) octets.now ++ drop (length octets.now) kept.old }
+{
+    kept[..octets.len()].copy_from_slice(octets);
+}
+
 // The field without the items that are withheld, into the front of an output.
 pub fn copy(cat: u8, field: &[u8], withheld: u8, out: &mut [u8]) -> Answer
     ensures { Copied cat field.now withheld out.old result out.new }
@@ -34,7 +42,7 @@ pub fn copy(cat: u8, field: &[u8], withheld: u8, out: &mut [u8]) -> Answer
         return a;
     };
     let mut kept = [0u8; 255];
-    kept[..len].copy_from_slice(&field[..len]);
+    begin(&field[..len], &mut kept);
     let items = layout::items_of(cat);
     let mut item: usize = 1;
     while item <= items {

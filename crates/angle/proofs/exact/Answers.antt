@@ -102,43 +102,55 @@ quotient_is (negsuc n) =
     let e : suc (suc (n * 703_125 + 703_124 + 16_383)) / 32_768 ≡ rounded (suc n) = omega arith in
     rw q (ap (λ (k : ℕ). neg_ℤ (pos k)) e)
 
-half_is : (c : goal.After-half) → to_z w64 (of_z w64 c.half.result) ≡ c.half.result
-half_is c = to_z-of_z {w = w64} {z = c.half.result} (sfits_of c.half.type-inv)
-
-half_size : (c : goal.After-half) → mag c.half.result ≤ 1_000_000
-half_size c = subst (λ z. mag z ≤ 1_000_000) (sym c.half.ensures) (half_small _)
-
 pub overflow_cast-product : goal.overflow_cast-product
 overflow_cast-product c = rw (to_z-of_z c.ranges.n) (sfits_widen tt c.ranges.n)
 
 pub overflow_mul-product : goal.overflow_mul-product
-overflow_mul-product c = rw (to_z-of_z (cast_product c), to_z-of_z c.ranges.n) (product_fits c.args.n _ c.ranges.n tt)
+overflow_mul-product c = rw (to_z-of_z (overflow_cast-product c), to_z-of_z c.ranges.n) (product_fits c.args.n _ c.ranges.n tt)
 
 pub overflow_add-udeg : goal.overflow_add-udeg
 overflow_add-udeg c =
-    rw (half_is c, to_z-of_z (mul_product c), to_z-of_z (cast_product c), to_z-of_z c.ranges.n) (sum_fits c.args.n _ c.ranges.n tt _ (half_size c))
+    let half_is : to_z w64 (of_z w64 c.half.result) ≡ c.half.result =
+        to_z-of_z {w = w64} {z = c.half.result} (sfits_of c.half.type_inv) in
+    let half_size : mag c.half.result ≤ 1_000_000 =
+        subst (λ z. mag z ≤ 1_000_000) (sym c.half.ensures) (half_small _) in
+    rw (half_is, to_z-of_z (overflow_mul-product c.before), to_z-of_z (overflow_cast-product c.before), to_z-of_z c.ranges.n) (sum_fits c.args.n _ c.ranges.n tt _ half_size)
 
 pub nonzero_div-udeg : goal.nonzero_div-udeg
 nonzero_div-udeg c =
+    let half_is : to_z w64 (of_z w64 c.half.result) ≡ c.half.result =
+        to_z-of_z {w = w64} {z = c.half.result} (sfits_of c.half.type_inv) in
+    let half_size : mag c.half.result ≤ 1_000_000 =
+        subst (λ z. mag z ≤ 1_000_000) (sym c.half.ensures) (half_small _) in
     (
       omega arith,
-      rw (to_z-of_z (add_udeg c), half_is c, to_z-of_z (mul_product c), to_z-of_z (cast_product c), to_z-of_z c.ranges.n)
-          (quotient_fits c.args.n _ c.ranges.n tt _ (half_size c)),
+      rw (to_z-of_z (overflow_add-udeg c), half_is, to_z-of_z (overflow_mul-product c.before), to_z-of_z (overflow_cast-product c.before), to_z-of_z c.ranges.n)
+          (quotient_fits c.args.n _ c.ranges.n tt _ half_size),
     )
 
 pub overflow_mul-result : goal.overflow_mul-result
 overflow_mul-result c =
-    rw (to_z-of_z (div_udeg c).1, to_z-of_z (add_udeg c), half_is c, to_z-of_z (mul_product c), to_z-of_z (cast_product c), to_z-of_z c.ranges.n)
-    (back_fits c.args.n _ c.ranges.n tt _ (half_size c) _ tt)
+    let half_is : to_z w64 (of_z w64 c.half.result) ≡ c.half.result =
+        to_z-of_z {w = w64} {z = c.half.result} (sfits_of c.half.type_inv) in
+    let half_size : mag c.half.result ≤ 1_000_000 =
+        subst (λ z. mag z ≤ 1_000_000) (sym c.half.ensures) (half_small _) in
+    rw (to_z-of_z (nonzero_div-udeg c).1, to_z-of_z (overflow_add-udeg c), half_is, to_z-of_z (overflow_mul-product c.before), to_z-of_z (overflow_cast-product c.before), to_z-of_z c.ranges.n)
+    (back_fits c.args.n _ c.ranges.n tt _ half_size _ tt)
 
 pub overflow_sub-result : goal.overflow_sub-result
 overflow_sub-result c =
-    rw (to_z-of_z (mul_back c), to_z-of_z (div_udeg c).1, to_z-of_z (add_udeg c), half_is c, to_z-of_z (mul_product c), to_z-of_z (cast_product c), to_z-of_z c.ranges.n)
-    (search (difference_fits, product_below, back_small, c.ranges.n, half_size c))
+    let half_is : to_z w64 (of_z w64 c.half.result) ≡ c.half.result =
+        to_z-of_z {w = w64} {z = c.half.result} (sfits_of c.half.type_inv) in
+    let half_size : mag c.half.result ≤ 1_000_000 =
+        subst (λ z. mag z ≤ 1_000_000) (sym c.half.ensures) (half_small _) in
+    rw (to_z-of_z (overflow_mul-result c), to_z-of_z (nonzero_div-udeg c).1, to_z-of_z (overflow_add-udeg c), half_is, to_z-of_z (overflow_mul-product c.before), to_z-of_z (overflow_cast-product c.before), to_z-of_z c.ranges.n)
+    (search (difference_fits, product_below, back_small, c.ranges.n, half_size))
 
 pub returns : goal.returns
 unfolding left_of
 returns c =
+    let half_is : to_z w64 (of_z w64 c.half.result) ≡ c.half.result =
+        to_z-of_z {w = w64} {z = c.half.result} (sfits_of c.half.type_inv) in
     let x = c.args.n in
-    rw (to_z-of_z (sub_left c), to_z-of_z (mul_back c), to_z-of_z (div_udeg c).1, to_z-of_z (add_udeg c), half_is c, c.half.ensures, to_z-of_z (mul_product c), to_z-of_z (cast_product c), to_z-of_z c.ranges.n)
+    rw (to_z-of_z (overflow_sub-result c), to_z-of_z (overflow_mul-result c), to_z-of_z (nonzero_div-udeg c).1, to_z-of_z (overflow_add-udeg c), half_is, c.half.ensures, to_z-of_z (overflow_mul-product c.before), to_z-of_z (overflow_cast-product c.before), to_z-of_z c.ranges.n)
     (quotient_is x, ap (λ q. x *ℤ pos 703_125 -ℤ q *ℤ pos 32_768) (quotient_is x))

@@ -4,19 +4,6 @@ use native.Mathlib.Omega.{arith}
 use Rattle.text.specs.Laws.Typing.{digits_none, digits_one, digits_more}
 use Rattle.text.proofs.+digits.Goals as goal
 
-abbrev μ_digits : Measures 1 digits-kinds.ps ℕ
-μ_digits κs a = a.1.0
-
-abbrev digits_at_lem : ℕ → In 1 digits-kinds.ps
-digits_at_lem t = and 1 digits-kinds.ps (is 1 digits-kinds.ps μ_digits t) digits.Pre
-
-abbrev digits_below : ℕ → In 1 digits-kinds.ps
-digits_below t = and 1 digits-kinds.ps (falls 1 digits-kinds.ps ◌<◌ μ_digits t) digits.Pre
-
--- what is known of the functions that it calls
-abbrev calls : ℕ → digits-lts.Claims
-calls t = (digit-reads.Asked, digit-reads.Learnt, octet-reads.Asked, octet-reads.Learnt, digits_below t, digits.Post)
-
 pub returns-then-most-eq0 : goal.returns-then-most-eq0
 returns-then-most-eq0 t c =
     let a = c.args in

@@ -18,14 +18,14 @@ pub loop-i-preserved : goal.loop-i-preserved
 loop-i-preserved c =
     let a = c.args in (
       omega arith,
-      alike_more a.a.now a.b.now (c.p-1.given.0 ∙ sym c.q-1.given.0) c.loop-i.i c.loop-i.invariant.1 (pos 0) (omega arith)
-          (sym (to_z-of_z (sfits_of c.t11-1.given)) ∙ ap (to_z w32) c.if-p-i.false ∙ to_z-of_z (sfits_of c.t14-1.given)),
+      alike_more a.a.now a.b.now (c.p-1.given ∙ sym c.q-1.given) c.loop-i.i c.loop-i.invariant.1 (pos 0) (omega arith)
+          (sym (to_z-of_z {w = w32} (sfits_of c.t11-1.given)) ∙ ap (to_z w32) c.if-p-i.false ∙ to_z-of_z {w = w32} (sfits_of c.t14-1.given)),
     )
 
 pub returns : goal.returns
 returns c =
     let a = c.args in
-    told_alike a.a.now a.b.now (c.p-1.given.0 ∙ sym c.q-1.given.0) c.loop-i.i c.loop-i.invariant.1 (omega arith)
+    told_alike a.a.now a.b.now (c.p-1.given ∙ sym c.q-1.given) c.loop-i.i c.loop-i.invariant.1 (omega arith)
 
 pub loop-i-init : goal.loop-i-init
 loop-i-init c = (omega arith, refl)
