@@ -74,7 +74,7 @@ FIVE = [
     ("a reader with one fixed record", "`reader/fixed_record`"),
     ("a sheet with one fixed angle", "`position/fixed_angle`, `angle/fixed`"),
     ("a desk that copies the field through and edits nothing",
-     "`desk/copies_field`; as a theorem `copied_through` (demands: `Edited`)"),
+     "`desk/copies_field`; as a theorem `copied-through` (demands: `Edited`)"),
     ("a writer that writes nothing", "`writer/writes_nothing`"),
 ]
 
