@@ -12,22 +12,22 @@ use Rattle.sheet.proofs.sheet.Goals as goal
 
 pub returns : goal.returns
 returns c =
-    let stands : (Standing (sheet_of c.args.input.now) c.type_inv.last.1.0 c.type_inv.result) =
+    let stands : (Standing (sheet_of c.args.input.now) c.typed-end.new.buf c.typed-end.result) =
         let t = c.args.input.now in
-        sheet_stands t (octets_all t (λ i. omega (arith, c.type_inv.input i))) (length-replicate {A = ℕ} 4_096 0) c.type_inv.ensures in
+        sheet_stands t (octets_all t (λ i. omega (arith, c.type_inv.input i))) (length-replicate {A = ℕ} 4_096 0) c.typed-end.ensures in
     let a = c.args in
     subst (λ x. Leaves (with_room (length a.out.now) x) a.out.now c.deliver.result c.deliver.new.out) stands.text_is c.deliver.ensures
 
 pub slice_bounds-buf-end : goal.slice_bounds-buf-end
 slice_bounds-buf-end c =
-    let stands : (Standing (sheet_of c.args.input.now) c.type_inv.last.1.0 c.type_inv.result) =
+    let stands : (Standing (sheet_of c.args.input.now) c.typed-end.new.buf c.typed-end.result) =
         let t = c.args.input.now in
-        sheet_stands t (octets_all t (λ i. omega (arith, c.type_inv.input i))) (length-replicate {A = ℕ} 4_096 0) c.type_inv.ensures in
+        sheet_stands t (octets_all t (λ i. omega (arith, c.type_inv.input i))) (length-replicate {A = ℕ} 4_096 0) c.typed-end.ensures in
     stands.within
 
 pub slice_bounds-deliver-end : goal.slice_bounds-deliver-end
 slice_bounds-deliver-end c =
-    let stands : (Standing (sheet_of c.args.input.now) c.type_inv.last.1.0 c.type_inv.result) =
+    let stands : (Standing (sheet_of c.args.input.now) c.typed-end.new.buf c.typed-end.result) =
         let t = c.args.input.now in
-        sheet_stands t (octets_all t (λ i. omega (arith, c.type_inv.input i))) (length-replicate {A = ℕ} 4_096 0) c.type_inv.ensures in
+        sheet_stands t (octets_all t (λ i. omega (arith, c.type_inv.input i))) (length-replicate {A = ℕ} 4_096 0) c.typed-end.ensures in
     stands.whole

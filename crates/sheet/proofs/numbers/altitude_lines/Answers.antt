@@ -10,5 +10,5 @@ use Rattle.sheet.proofs.numbers.altitude_lines.Goals as goal
 pub returns : goal.returns
 returns c =
     let a = c.args in
-    types_behind (altitude_key a.name.now (text ".RES") a.a.res (to_z-of_z {w = w32} {z = a.a.res} (sfits_of c.type_inv.a.0.1)) c.number-next.ensures)
-    (altitude_key a.name.now (text ".GA") a.a.ga (to_z-of_z {w = w32} {z = a.a.ga} (sfits_of c.type_inv.a.1.0.1)) c.number.ensures)
+    types_behind (altitude_key a.name.now (text ".RES") a.a.res (to_z-of_z {w = w32} {z = a.a.res} (sfits_of c.struct_told-1.given.0.1)) c.number-next.ensures)
+    (altitude_key a.name.now (text ".GA") a.a.ga (to_z-of_z {w = w32} {z = a.a.ga} (sfits_of c.struct_told-1.given.1.0.1)) c.number.ensures)

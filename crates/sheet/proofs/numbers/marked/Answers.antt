@@ -18,7 +18,7 @@ returns-in-62 c =
 pub returns-in-60 : goal.returns-in-60
 returns-in-60 c =
     let a = c.args in
-    keyed_one a.numbers.now a.slot (meant_offset a.mark a.name.now c.in-60.is) c.offset_at-o.ensures (rw (to_z-of_z {w = w32} {z = c.offset_at-o.result.tos} (sfits_of c.type_inv.o.0.1)) at c.alone.ensures)
+    keyed_one a.numbers.now a.slot (meant_offset a.mark a.name.now c.in-60.is) c.offset_at-o.ensures (rw (to_z-of_z {w = w32} {z = c.offset_at-o.result.tos} (sfits_of c.struct_told-1.given.0.1)) at c.alone.ensures)
 
 pub returns-in-63 : goal.returns-in-63
 returns-in-63 c =

@@ -8,23 +8,19 @@ use mir.Facts.{to_z-of_z}
 use mir.Syntax.{w32}
 use mir.Val.{SFits}
 use Rattle.taken.specs.Laws.Numbers.{top_is, top_most}
-use Rattle.taken.proofs.top.Statement.{statement}
-use Rattle.taken.proofs.top.Tie as tie
+use Rattle.taken.proofs.top.Goals as goal
 
-sub_result : tie.Need-overflow-sub-result
-sub_result c = search rules
+pub overflow_sub-result : goal.overflow_sub-result
+overflow_sub-result c = search rules
 
-shr_result : tie.Need-overflow-shr-result
-shr_result c = search rules
+pub overflow_shr-result : goal.overflow_shr-result
+overflow_shr-result c = search rules
 
-cast_result : tie.Need-overflow-cast-result
-cast_result c = let w = c.args.w in record { sfits = omega (arith, top_is w c.requires, top_most w c.requires) }
+pub overflow_cast-result : goal.overflow_cast-result
+overflow_cast-result c = let w = c.args.w in record { sfits = omega (arith, top_is w c.requires, top_most w c.requires) }
 
-returns : tie.Need-returns
+pub returns : goal.returns
 returns c =
     let w = c.args.w in
     let f : SFits w32 (pos (16777215 / 2 ^ (24 - w))) = record { sfits = omega (arith, top_is w c.requires, top_most w c.requires) } in
     to_z-of_z f ∙ ap pos (top_is w c.requires)
-
-pub top_spec : {M : Type 1} → statement M
-top_spec = tie.close (tie.spec sub_result shr_result cast_result returns)
