@@ -6,7 +6,7 @@ import subprocess
 
 WORK = pathlib.Path(__file__).resolve().parent.parent / "target" / "bench"
 GUIDE = subprocess.run(["rt", "doc"], check=True, capture_output=True, text=True).stdout.strip()
-KIT = pathlib.Path(GUIDE).parent.parent
+KIT = pathlib.Path(GUIDE).parent
 LIB = KIT / "toolchain" / "lib"
 NATIVE = platform.machine() == "x86_64"
 EMULATOR = shutil.which("qemu-x86_64") if NATIVE else KIT / "on" / platform.machine() / "toolchain" / "bin" / "qemu-x86_64"

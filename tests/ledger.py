@@ -1,10 +1,12 @@
 #!/usr/bin/env python3
-"""Makes docs/WRONG_PROGRAMS.md from the must-fail edits, from what the last `rt ci` or `rt must-fail` said of each
-(target/must-fail/), and from what the check of each crate takes (target/crate-seconds.json):
+"""Makes docs/WRONG_PROGRAMS.md from the must-fail edits, from what a run of `rt ci` or `rt must-fail` said of each, and from
+what they take (target/edit-seconds.json, where they were measured):
 
-    rt ci && python3 tests/ledger.py --times && python3 tests/ledger.py > docs/WRONG_PROGRAMS.md
+    rt must-fail >target/edits.out && python3 tests/ledger.py target/edits.out >target/page && mv target/page docs/WRONG_PROGRAMS.md
+    python3 tests/ledger.py --times
 
-`--times` proves each crate that has edits once more and keeps its CPU seconds; with crates behind it, only these.
+`--times` has each crate that has edits proved, and each of them tried, from nothing, and keeps the CPU seconds; with crates
+behind it, only these.
 """
 import json
 import os
@@ -12,10 +14,11 @@ import re
 import resource
 import subprocess
 import sys
+from functools import cache
 from pathlib import Path
 
 ROOT = Path(__file__).resolve().parent.parent
-SECONDS = ROOT / "target" / "crate-seconds.json"
+SECONDS = ROOT / "target" / "edit-seconds.json"
 
 # the crates in the order of the layers, and what each of them promises
 PROMISES = [
@@ -47,7 +50,7 @@ PROMISES = [
     ("compare", "`opens`, `first_wrong`"),
     ("taken", "`record`"),
     ("rebuild", "`rebuild`"),
-    ("hex", "`is_octets`, `octets`, `is_list`, `list`"),
+    ("hex_words", "`is_octets`, `octets`, `is_list`, `list`"),
     ("protocol", "`parse`, `record_at`"),
     ("replies", "`bad_request`, `refusal`, `left`, `rebuilt_text`, `view_text`, `choice_text`, `reading_text`, `sheet_text`"),
     ("requests", "`answer`"),
@@ -62,6 +65,9 @@ PROMISES = [
     ("refdesk", "the private functions behind `main`: between two reads what is left of the input's last line is held"),
 ]
 
+# what was measured before the kit did so
+OLDER = "With the older kit rattle-kit-5b-plain each edit proved its crate again, and the 192 of them took 1,546 CPU seconds."
+
 # 01, 'How firm each promise is': "These must be unable to meet it"
 FIVE = [
     ("a reader or desk that refuses everything", "`reader/refuses_all`, `desk/refuses_all`"),
@@ -73,16 +79,33 @@ FIVE = [
 ]
 
 
-def parts(edit):
-    """The sentence above an edit, and its old and new lines. rt passes over every line without one of the four marks,
-    so an old or a new text of several lines would leave the crate as it is."""
+def lines_of(edit):
+    """rt passes over every line without one of the four marks, so an old or a new text of several lines would leave the
+    crate as it is."""
     lines = edit.read_text().splitlines()
     passed = [line for line in lines if line and not re.match(r"# |file: |old: |new:", line)]
     assert not passed, (edit, passed)
-    why = [line[1:].strip() for line in lines if line.startswith("#")]
-    old = [line[5:] for line in lines if line.startswith("old: ")]
-    new = [line[4:].removeprefix(" ") for line in lines if line.startswith("new:")]
-    return " ".join(why), list(zip(old, new, strict=True))
+    return lines
+
+
+def changes(edit):
+    """(file, old line, new line) of each pair."""
+    lines, file, old, found = lines_of(edit), None, None, []
+    for line in lines:
+        if line.startswith("file: "):
+            file = line[6:].strip()
+        elif line.startswith("old: "):
+            old = line[5:]
+        elif line.startswith("new:"):
+            found.append((file, old, line[4:].removeprefix(" ")))
+            old = None
+    assert len(found) == sum(line.startswith("old: ") for line in lines) and all(None not in change for change in found), edit
+    return found
+
+
+def fact(edit):
+    """The sentence above an edit."""
+    return " ".join(line[1:].strip() for line in lines_of(edit) if line.startswith("#"))
 
 
 def changed(old, new):
@@ -104,20 +127,24 @@ def code(text):
     return f"`` {text} ``" if "`" in text else f"`{text}`"
 
 
-def refused_in(crate, name):
-    """Where the check of the last run first fails: the file, and the declaration there that no longer holds."""
-    folder = ROOT / "target" / "must-fail" / crate
-    said = folder / f"{name}.out"
-    found = said.exists() and re.search(r"first at (\S+?):(\d+):\d+", said.read_text(errors="replace"))
+@cache
+def refusals(log):
+    """What rt said of each edit that it refused, by crate and name."""
+    found = re.findall(r"^rt: must-fail (\w+)/(\S+)\.edit: refused, as it must be(?: \([^)]*\))?(?:: (.*))?$", log, re.M)
+    return {(crate, name): said for crate, name, said in found}
+
+
+def refused_in(crate, name, log):
+    """Where the check first fails: the file, in a source file the function, and the goal or the declaration that does not hold."""
+    said = refusals(log)[crate, name]
+    found = re.match(r"(?:note: )?(?:\./)?(\S+?):(\d+):\d+: (.*)", said)
     if not found:
         return ""
-    file, line = folder / name / found[1], int(found[2])
-    if not file.exists():
-        file = ROOT / "crates" / crate / found[1]
-    declares = re.compile(r" {0,4}(?:pub |unfoldable |abbrev )*([^\s:(){}]+) : ")
-    above = (declares.match(text) for text in reversed(file.read_text().splitlines()[:line]))
-    declared = next((name[1] for name in above if name), "")
-    return f"`{found[1].replace('/Proof.antt', '')}`" + (f", `{declared}`" if declared else "")
+    file, line = found[1], int(found[2])
+    inside = [item for module, item, _, at, _ in items_of(crate) if file == f"src/{module}.rt" and at < line][-1:]
+    goal = re.match(r"error: `([^`]+)`", found[3]) or re.search(r"\(`([^`]+)`\)", found[3])
+    named = [re.sub(r"/(Answers|Invariants|Proof)\.antt$", "", file), *inside, *(goal.groups() if goal else ())]
+    return ", ".join(f"`{it}`" for it in named)
 
 
 def edits_of_crates():
@@ -131,7 +158,10 @@ def edits_of_crates():
 # ---- which of them each public function has: those whose changed line it runs or looks up
 
 # the functions for C hand their arguments on, and one wrong program is enough for each
-DOORS = {"exports"}
+DOORS = {"exports", "exports_c"}
+
+# a crate whose functions only call those of the same names in another, whose wrong programs count for them
+CALLS = {"exports_c": "exports"}
 
 ITEM = re.compile(r" *(pub )?(?:extern \"C\" )?(?:fn|const) (\w+)")
 
@@ -160,15 +190,26 @@ def wrong_programs(crate, edits):
         named.setdefault((module, name), set()).update(names_in(module, text, modules))
     touched = {}
     for edit in edits:
-        file = re.search(r"^file: src/(.*)$", edit.read_text(), re.M)
-        for old, _ in parts(edit)[1] if file else []:
-            source = (ROOT / "crates" / crate / "src" / file[1]).read_text()
-            assert source.count(old) == 1, (edit, "an old text stands there once")
-            line = source.partition(old)[0].count("\n")
-            inside = [(module, name) for module, name, _, at, _ in items if module == Path(file[1]).stem and at <= line]
+        for file, line in changed_lines(crate, edit):
+            inside = [(module, name) for module, name, _, at, _ in items if module == file.stem and at <= line]
             touched.setdefault(inside[-1], []).append(edit.stem)
     return {name: list(dict.fromkeys(edit for item in sorted(reached((module, name), named)) for edit in touched.get(item, [])))
             for module, name, public, *_ in items if public}
+
+
+def changed_lines(crate, edit):
+    """The file and the line, from 0, of each change to the crate's source. As rt reads an edit, a pair applies to what those
+    before it made, and its old text stands there once."""
+    texts, found = {}, []
+    for path, old, new in changes(edit):
+        if not path.startswith("src/"):
+            continue
+        file = ROOT / "crates" / crate / path
+        text = texts.get(file) or file.read_text()
+        assert text.count(old) == 1, (edit, "an old text stands there once")
+        texts[file] = text.replace(old, new)
+        found.append((file, text.partition(old)[0].count("\n")))
+    return found
 
 
 def names_in(module, text, modules):
@@ -188,22 +229,32 @@ def reached(name, named):
     return seen
 
 
+def counted(crate, edits):
+    """The wrong programs of each public function of a crate, with those of the function that it only calls."""
+    found = wrong_programs(crate, edits.get(crate, []))
+    if crate not in CALLS:
+        return found
+    below = wrong_programs(CALLS[crate], edits.get(CALLS[crate], []))
+    texts = {name: text for _, name, public, _, text in items_of(crate) if public}
+    called = {name: f"{CALLS[crate]}::{name}(" in texts[name] for name in found}
+    return {name: own + (below[name] if called[name] else []) for name, own in found.items()}
+
+
 def wanting():
     """The public functions, of whatever crate, with fewer wrong programs than they must have."""
     edits = edits_of_crates()
     crates = sorted(path.parent.parent.name for path in ROOT.glob("crates/*/src/lib.rt"))
-    return [f"{crate}::{name}" for crate in crates for name, found in wrong_programs(crate, edits.get(crate, [])).items()
+    return [f"{crate}::{name}" for crate in crates for name, found in counted(crate, edits).items()
             if len(found) < (1 if crate in DOORS else 2)]
 
 
-# ---- what the edits take: each proves its crate again
+# ---- what the edits take
 
 
-def check(*crates):
-    """Proves the crates, one at a time, and what they stand on; the CPU seconds that this took."""
+def ran(folder, *command):
+    """Runs a command in a folder; its CPU seconds."""
     before = resource.getrusage(resource.RUSAGE_CHILDREN)
-    said = subprocess.run(["rt", "check", *crates], cwd=ROOT, env={**os.environ, "RT_JOBS": "1"},
-                          capture_output=True, text=True)
+    said = subprocess.run(command, cwd=folder, env={**os.environ, "RT_JOBS": "1"}, capture_output=True, text=True)
     if said.returncode:
         sys.exit(said.stdout + said.stderr)
     after = resource.getrusage(resource.RUSAGE_CHILDREN)
@@ -211,13 +262,13 @@ def check(*crates):
 
 
 def measure(crates):
-    """Keeps the CPU seconds of each crate's check. What it stands on is proved already and its stamp is removed, so
-    that it is checked anew and alone."""
-    check(*crates)
+    """Keeps the CPU seconds of the edits of each crate: the crate is proved from nothing, and each of them tried over that.
+    What it stands on is built before."""
     took = kept_seconds()
     for crate in crates:
-        (ROOT / "target" / "stamp" / crate).unlink(missing_ok=True)
-        took[crate] = round(check(crate), 1)
+        ran(ROOT / "crates" / crate, "rt", "check")
+        took[crate] = round(ran(ROOT, "rt", "must-fail", "--anew", crate), 1)
+        SECONDS.parent.mkdir(exist_ok=True)
         SECONDS.write_text(json.dumps(took, indent=1, sort_keys=True) + "\n")
         print(f"{crate}: {took[crate]} s", flush=True)
 
@@ -228,55 +279,47 @@ def kept_seconds():
 
 def cost(edits):
     """The lines of the page that say what the edits of each crate take, and their sum."""
-    took = kept_seconds()
-    rows, total = [], 0
-    for crate, found in edits.items():
-        if crate not in took:
-            continue
-        product = len(found) * took[crate]
-        total += product
-        rows.append(f"| `{crate}` | {len(found)} | {took[crate]:.1f} | {product:.1f} |")
-    lines = ["Each of them proves its crate again, so it takes the CPU seconds of that crate's check.\n"]
-    if rows:
-        lines += ["| crate | edits | seconds | edits × seconds |", "|---|---|---|---|", *rows]
-        lines += [f"\nSum over the edits: {total:,.0f} CPU seconds, of the machine that this page was made on."]
+    took = {crate: seconds for crate, seconds in kept_seconds().items() if crate in edits}
+    lines = ["`rt` proves a crate that has edits once, and tries each of them over that: what an edit does not touch is not proved again.\n"]
+    if took:
+        lines += ["| crate | edits | CPU seconds of all |", "|---|---|---|"]
+        lines += [f"| `{crate}` | {len(found)} | {took[crate]:.1f} |" for crate, found in edits.items() if crate in took]
+        lines += [f"\nSum: {sum(took.values()):,.0f} CPU seconds, of the machine that this page was made on."]
     unknown = [crate for crate in edits if crate not in took]
     if unknown:
-        lines += [f"Not measured (`python3 tests/ledger.py --times` measures): {', '.join(unknown)}."]
+        lines += [f"Not measured with this kit (`python3 tests/ledger.py --times` measures): {', '.join(unknown) if took else 'any of them'}.", OLDER]
     return lines
 
 
 # ---- the page
 
 
-def section(crate, promise, edits):
+def section(crate, promise, edits, log):
     print(f"\n## {crate}: {promise}\n")
     print("| edit | changed | the fact | refused in |\n|---|---|---|---|")
-    for edit in edits:
-        why, pairs = parts(edit)
-        what = "; ".join(changed(old, new) for old, new in pairs if not old.startswith("use "))
-        print(f"| `{edit.stem}` | {what} | {why} | {refused_in(crate, edit.stem)} |")
-    functions = wrong_programs(crate, edits)
+    for edit in edits[crate]:
+        what = "; ".join(changed(old, new) for _, old, new in changes(edit) if not old.startswith(("use ", "ghost use ")))
+        print(f"| `{edit.stem}` | {what} | {fact(edit)} | {refused_in(crate, edit.stem, log)} |")
+    functions = counted(crate, edits)
     if functions:
         print("\n| public function | its wrong programs, and those of what it calls |\n|---|---|")
     for name, found in functions.items():
         print(f"| `{name}` | {', '.join(f'`{edit}`' for edit in found)} |")
 
 
-def main(words):
-    edits = edits_of_crates()
-    if words[:1] == ["--times"]:
-        measure(words[1:] or list(edits))
-        print("\n".join(cost(edits)))
-        return
+def page(edits, log):
+    unknown = [f"{crate}/{edit.stem}" for crate, found in edits.items() for edit in found if (crate, edit.stem) not in refusals(log)]
+    if unknown:
+        sys.exit(f"that run of rt says of these edits no refusal: {', '.join(unknown)}")
     print("# Wrong programs\n")
     count = sum(len(found) for found in edits.values())
     print(f"{count} wrong programs, tried by `rt ci` at every run: each is the program with one or two lines changed "
           "to the same shape with another operand, and each is refused.")
     print("The table says what was changed, the fact that no longer holds, and where the check first fails. "
-          "`python3 tests/ledger.py` makes this page from the edits and the last run.")
+          "`python3 tests/ledger.py` makes this page from the edits and from what a run of `rt` said of them.")
     print("A wrong line counts for every public function that runs it or looks it up: each of them has two or more, a "
-          "function for C, which only hands on, one or more (`tests/selftest.py` counts).\n")
+          "function for C, which only hands on, one or more (`tests/selftest.py` counts). Those of `exports_c` call those of "
+          "`exports` by the same names, whose wrong lines are theirs.\n")
     print("The five of 01, 'How firm each promise is':\n")
     print("| must be unable to meet the promise | refused as |\n|---|---|")
     for what, where in FIVE:
@@ -285,8 +328,19 @@ def main(words):
     print("\n".join(cost(edits)))
     for crate, promise in PROMISES:
         if crate in edits:
-            section(crate, promise, edits[crate])
+            section(crate, promise, edits, log)
+
+
+def main(words):
+    edits = edits_of_crates()
+    if words[:1] == ["--times"]:
+        measure(words[1:] or list(edits))
+        print("\n".join(cost(edits)))
+    elif len(words) == 1 and not words[0].startswith("-"):
+        page(edits, Path(words[0]).read_text(errors="replace"))
+    else:
+        sys.exit(__doc__)
 
 
 if __name__ == "__main__":
-    sys.exit(main(sys.argv[1:]))
+    main(sys.argv[1:])

@@ -11,13 +11,17 @@ from reference import sheet
 from sheets import WORKED
 from started import RUN
 
-# In the place of rt: it builds by taking the program that is there, and says what it was asked on standard output, where nothing of it may get to.
+EXAMPLE = b"the crate's own example\n"  # the crate's stdin
+
+# In the place of rt: it builds by taking the program that is there. It says what it was asked, where, and what it was given; also on standard output, where
+# nothing of it may get to.
 BUILDS = f"""#!/bin/sh
-[ "$1" = check ] || exec {shutil.which("rt")} "$@"
-echo "rt $*"
-cat
-mkdir -p target/bin
-cp {RUN.parent.parent}/target/bin/listing target/bin/listing
+[ "$1" = run ] || exec {shutil.which("rt")} "$@"
+echo "rt $* in $(basename "$PWD")" >&2
+cat >&2
+echo "what the program writes of the example"
+mkdir -p out
+cp {RUN.parent.parent}/target/bin/listing out/listing
 """
 
 
@@ -38,6 +42,7 @@ def unbuilt(folder):
     (folder / "bin").mkdir()
     (folder / "crates/listing/src").mkdir(parents=True)
     (folder / "crates/listing/src/main.rt").touch()
+    (folder / "crates/listing/stdin").write_bytes(EXAMPLE)
     return shutil.copy(RUN, folder / "bin/run")
 
 
@@ -68,7 +73,7 @@ def main():
         built = ran(copy, "listing", PATH=f"{kit}:{os.environ['PATH']}")
         count += check("before it is built", built, 0, wanted, b"not built yet")
         count += check("when it is built", ran(copy, "listing"), 0, wanted)
-        assert b"rt check listing\n" in built.stderr and WORKED not in built.stderr, built
+        assert b"rt run in listing\n" + EXAMPLE in built.stderr and WORKED not in built.stderr, built
     print(f"bin/run: {count} passed, 0 failed")
 
 

@@ -14,6 +14,7 @@ import ledger
 import rebuilds
 import slots
 import spares
+import specimens
 import ways
 from edits import BASE, WORKED
 from fields import full_field, good_field
@@ -401,6 +402,8 @@ for name, cat, field, *_ in requests():  # what is read is written again, as it 
 assert not slots.differs(), "python3 tests/slots.py write"
 assert ways.differing() == [], "python3 tests/ways.py write"
 assert not spares.differs(), "python3 tests/spares.py write"
+for place, row in (("papers/specs/Specimens.antt", specimens.contents_row), ("scope/specs/Sheets.antt", specimens.sheet_row)):
+    assert specimens.rows(row) in (slots.ROOT / "crates" / place).read_text(encoding="utf-8"), "python3 tests/specimens.py"
 assert spares.asked() == ["if ind & layout::spare_of(cat) == 0 {", "if n & format.spare == 0 {"], "one comparison with a mask, and no other condition"
 checks += sum(same_spares(cat, spares.PAGE.read_text(encoding="utf-8")) for cat in PAPERS)
 assert ledger.wanting() == [], "two wrong programs for each public function, one for a function that only hands on"

@@ -112,7 +112,7 @@ In the code the masks stand beside the lengths, in `LENGTHS` (`crates/lengths/sr
 beside the counts of items, in `Cat048`, `Cat021` and `Cat007` (`crates/layout/src/lib.rt`). The reader looks a mask up and
 makes one comparison: 6 where a bit of a part or subfield is set that the mask has, 4 where one of the indicator is. There is
 no other condition on spare bits. In the definitions they stand in the layout files, `crates/papers/specs/Cat048.antt`,
-`Cat021.antt` and `Cat007.antt`, as `spares 32 31` or `spareBit 1`. That a mask is what its layout file calls spare is
+`Cat021.antt` and `Cat007.antt`, as `spares 32 31` or `spare_bit 1`. That a mask is what its layout file calls spare is
 proved of the whole table by one computation (`lengths/proofs/table_of_lengths`), and of the indicators by one for each
 (`layout/proofs/spare_of`).
 """

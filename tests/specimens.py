@@ -1,7 +1,7 @@
 #!/usr/bin/env python3
 """Prints the rows of crates/papers/specs/Specimens.antt: a field of each category with every item, part and subfield, and what each item holds: its parts
 and its numbers.
-With `sheets` behind, the last rows of crates/scope/specs/Sheets.antt: the sheets of those fields.
+With `sheets` behind, the last rows of crates/scope/specs/Sheets.antt: the sheets of those fields. tests/selftest.py looks for both.
 
 The numbers are drawn so that each differs from its neighbours' widths and signs: signed ones are negative, wide ones have their highest bit set.
 """
@@ -56,7 +56,7 @@ def contents_row(octets, record):
         held.append(f"({count}, " + "".join(antt(z) + " ∷ " for z in its) + "[])")
         at += len(its)
     return "\n".join([
-        "    record {",
+        "record {",
         f"      cat = {cat};",
         f"      octets = {hexed(octets)};",
         f"      items = 0x{indicator:02X};",
@@ -69,13 +69,22 @@ def contents_row(octets, record):
 
 def sheet_row(octets, record):
     given = bytes([record[0]]) + octets
-    return "    ∷ record { input = %s;\n      lines = \"%s\" }" % (hexed(given), sheet(given).replace("\n", "\\n"))
+    return "\n".join([
+        "record {",
+        f"      input = {hexed(given)};",
+        "      lines = \"%s\";" % sheet(given).replace("\n", "\\n"),
+        "    }",
+    ])
+
+
+def rows(row):
+    """Of each category, one behind the other as they are laid out there."""
+    rng = random.Random(2026)
+    return "\n    ∷ ".join(row(*specimen(cat, rng)) for cat in PAPERS)
 
 
 def main():
-    rng, row = random.Random(2026), sheet_row if sys.argv[1:] == ["sheets"] else contents_row
-    for cat in PAPERS:
-        print(row(*specimen(cat, rng)))
+    print("    ∷ " + rows(sheet_row) if sys.argv[1:] == ["sheets"] else "    " + rows(contents_row))
 
 
 if __name__ == "__main__":
