@@ -7,29 +7,40 @@
 
 PREFIX = /usr/local
 VERSION = 1.0
-PROGRAMS = target/bin/refdesk target/bin/listing target/bin/unlisting
+NAMES = refdesk listing unlisting
+PROGRAMS = $(NAMES:%=target/bin/%)
 ARCHIVE = target/lib/librefdesk.a
-SOURCES := crates.txt $(shell find crates -type f)
+SOURCES := crates.txt $(shell find crates -name out -prune -o -type f -print)
 TO = $(DESTDIR)$(PREFIX)
 REF = $(TO)/lib/paltinoma
 NEEDS_RT = @command -v rt >/dev/null || { echo "there is no 'rt' on the PATH; it is the command of the Rattle kit, and README.md says more" >&2; exit 127; }
 
 .PHONY: all check install bench
-.NOTPARALLEL: # rt keeps what it has proved below target/
+.NOTPARALLEL: # one rt at a time
+.SECONDARY: # what rt builds stays where it builds it
 
 all: $(PROGRAMS) $(ARCHIVE)
 
-# rt proves what has changed, and is quick where nothing has
-$(PROGRAMS): $(SOURCES)
+# rt builds a crate in its folder out/, where `rt ci` leaves the programs too. It proves what has changed, and is quick where nothing has. No command of it
+# builds a program alone: `rt run` runs it as well, here on the crate's example.
+$(foreach name,$(NAMES),crates/$(name)/out/$(name)): $(SOURCES)
 	$(NEEDS_RT)
-	rt check $(@F)
+	mkdir -p target
+	cd $(@D)/.. && rt run <stdin >$(CURDIR)/target/$(@F).out 2>&1 || { cat $(CURDIR)/target/$(@F).out; exit 1; }
 	touch $@
 
-$(ARCHIVE): $(SOURCES)
+crates/exports_c/out/libexports_c.a: $(SOURCES)
 	$(NEEDS_RT)
-	mkdir -p $(@D)
-	rt staticlib exports >$(@D)/staticlib.out 2>&1 || { cat $(@D)/staticlib.out; exit 1; }
-	cp target/staticlib/libexports.a $@
+	mkdir -p target
+	cd $(@D)/.. && rt lib >$(CURDIR)/target/$(@F).out 2>&1 || { cat $(CURDIR)/target/$(@F).out; exit 1; }
+	touch $@
+
+.SECONDEXPANSION:
+$(PROGRAMS): target/bin/%: crates/$$*/out/$$*
+	install -D $< $@
+
+$(ARCHIVE): crates/exports_c/out/libexports_c.a
+	install -D -m 644 $< $@
 
 check: all
 	python3 tests/selftest.py

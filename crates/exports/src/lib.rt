@@ -1,6 +1,8 @@
-// The C interface: each operation as a function that a program in C calls, declared in include/refdesk.h.
+// The C interface: each operation as a function whose arguments and answer a program in C can pass. exports_c gives them to C.
 // Promises: the word that is answered, and every element of lent memory afterwards, are those of the definitions of 01 and 02, for every input; a refusal writes nothing.
 // Stands on arrays, views, desk, visitors, sheet and rebuild, which it knows by their contracts.
+#![tactic(auto)]
+
 ghost use Rattle.std.specs.Prelude.{◌≡◌, length};
 ghost use Rattle.codec.specs.Change.{remove, put};
 ghost use Rattle.layout.specs.Answer.{place_of, length_of, view_place, view_length};
@@ -55,8 +57,7 @@ fn side_word(which: u8, v: View) -> u64
 }
 
 // The field's record into an array of 87; LEN is the length that is answered.
-#[unsafe(no_mangle)]
-pub extern "C" fn ref_read(cat: u8, field: &[u8], out: &mut [i32]) -> u64
+pub fn ref_read(cat: u8, field: &[u8], out: &mut [i32]) -> u64
     ensures { Fills (read_of cat field.now) out.old result out.new }
 {
     let done = arrays::read_array(cat, field, &mut *out);
@@ -64,8 +65,7 @@ pub extern "C" fn ref_read(cat: u8, field: &[u8], out: &mut [i32]) -> u64
 }
 
 // The field of a record's array, into the front of the output.
-#[unsafe(no_mangle)]
-pub extern "C" fn ref_write(a: &[i32], out: &mut [u8]) -> u64
+pub fn ref_write(a: &[i32], out: &mut [u8]) -> u64
     ensures { Hands (write_array a.now (length out.old)) out.old result out.new }
 {
     let done = arrays::write_array(a, &mut *out);
@@ -73,8 +73,7 @@ pub extern "C" fn ref_write(a: &[i32], out: &mut [u8]) -> u64
 }
 
 // Where an item stands in its field.
-#[unsafe(no_mangle)]
-pub extern "C" fn ref_view(cat: u8, field: &[u8], item: u8) -> u64
+pub fn ref_view(cat: u8, field: &[u8], item: u8) -> u64
     ensures { result ≡ view_word (view_of cat field.now item) }
 {
     let v = views::view_answer(cat, field, item);
@@ -82,8 +81,7 @@ pub extern "C" fn ref_view(cat: u8, field: &[u8], item: u8) -> u64
 }
 
 // Where an item stands in the correction, or else in the base.
-#[unsafe(no_mangle)]
-pub extern "C" fn ref_choose(cat: u8, base: &[u8], correction: &[u8], item: u8) -> u64
+pub fn ref_choose(cat: u8, base: &[u8], correction: &[u8], item: u8) -> u64
     ensures { result ≡ choice_word (choose_of cat base.now correction.now item) }
 {
     let c = views::choose_answer(cat, base, correction, item);
@@ -93,8 +91,7 @@ pub extern "C" fn ref_choose(cat: u8, base: &[u8], correction: &[u8], item: u8) 
 }
 
 // A field without an item, into the front of the output.
-#[unsafe(no_mangle)]
-pub extern "C" fn ref_remove(cat: u8, field: &[u8], list: u8, item: u8, out: &mut [u8]) -> u64
+pub fn ref_remove(cat: u8, field: &[u8], list: u8, item: u8, out: &mut [u8]) -> u64
     ensures { Hands (edit_of cat field.now list item remove (length out.old)) out.old result out.new }
 {
     let done = desk::remove(cat, field, list, item, &mut *out);
@@ -102,15 +99,7 @@ pub extern "C" fn ref_remove(cat: u8, field: &[u8], list: u8, item: u8, out: &mu
 }
 
 // A field with an item of new octets, into the front of the output.
-#[unsafe(no_mangle)]
-pub extern "C" fn ref_replace(
-    cat: u8,
-    field: &[u8],
-    list: u8,
-    item: u8,
-    new: &[u8],
-    out: &mut [u8],
-) -> u64
+pub fn ref_replace(cat: u8, field: &[u8], list: u8, item: u8, new: &[u8], out: &mut [u8]) -> u64
     ensures { Hands (edit_of cat field.now list item (put new.now) (length out.old)) out.old result out.new }
 {
     let done = desk::replace(cat, field, list, item, new, &mut *out);
@@ -118,8 +107,7 @@ pub extern "C" fn ref_replace(
 }
 
 // A field without the items that are withheld, into the front of the output.
-#[unsafe(no_mangle)]
-pub extern "C" fn ref_copy(cat: u8, field: &[u8], withheld: u8, out: &mut [u8]) -> u64
+pub fn ref_copy(cat: u8, field: &[u8], withheld: u8, out: &mut [u8]) -> u64
     ensures { Hands (copy_of cat field.now withheld (length out.old)) out.old result out.new }
 {
     let done = visitors::copy(cat, field, withheld, &mut *out);
@@ -127,8 +115,7 @@ pub extern "C" fn ref_copy(cat: u8, field: &[u8], withheld: u8, out: &mut [u8]) 
 }
 
 // The sheet of a category octet and a field, into the front of the output.
-#[unsafe(no_mangle)]
-pub extern "C" fn ref_sheet(input: &[u8], out: &mut [u8]) -> u64
+pub fn ref_sheet(input: &[u8], out: &mut [u8]) -> u64
     ensures { Hands (with_room (length out.old) (sheet_of input.now)) out.old result out.new }
 {
     let done = sheet::sheet(input, &mut *out);
@@ -136,8 +123,7 @@ pub extern "C" fn ref_sheet(input: &[u8], out: &mut [u8]) -> u64
 }
 
 // The field whose sheet a text is, into the front of the output, and its category.
-#[unsafe(no_mangle)]
-pub extern "C" fn ref_rebuild(text: &[u8], out: &mut [u8]) -> u64
+pub fn ref_rebuild(text: &[u8], out: &mut [u8]) -> u64
     ensures { HandsRebuilt (rebuild_of text.now (length out.old)) out.old result out.new }
 {
     let given = rebuild::rebuild(text, &mut *out);

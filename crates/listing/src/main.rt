@@ -2,6 +2,8 @@
 // standard output. A read or a write that fails ends it, with a line on standard error.
 // Promises: what it hands to be written is the sheet of what it was handed, to the octet; what is read and written nothing can promise.
 // Stands on sheet, and on inputs for what is read.
+#![tactic(auto)]
+
 ghost use Rattle.std.specs.Prelude.{◌≡◌, ◌≤◌, length, take};
 ghost use Rattle.scope.specs.Sheet.{sheet_of};
 ghost use Rattle.longest.specs.Longest.{longest_sheet};
@@ -15,16 +17,16 @@ const MOST: usize = 256;
 // Room for every sheet: the contract of `listed` asks for it.
 const ROOM: usize = 2048;
 
-fn main() {
+fn main(rt: HostRuntime) {
     let mut input = [0u8; MOST];
-    let Input::Octets(n) = inputs::read_in(&mut input) else {
-        io::write_all(2, b"listing: standard input can't be read\n");
+    let Input::Octets(n) = inputs::read_in(&mut rt.stdin(), &mut input) else {
+        let _ = rt.eprintln("listing: standard input can't be read");
         return;
     };
     let mut output = [0u8; ROOM];
     let end = listed(&input[..n], &mut output);
-    if !io::write_all(1, &output[..end]) {
-        io::write_all(2, b"listing: the sheet can't be written\n");
+    if rt.write_all(&output[..end]).is_err() {
+        let _ = rt.eprintln("listing: the sheet can't be written");
     }
 }
 

@@ -3,6 +3,8 @@
 // write that fails ends it, with a line on standard error.
 // Promises: what it hands to be written is the category and the field of the text that it was handed, to the octet, or the refusal; what is read and written
 // nothing can promise. Stands on rebuild, on text for the refusal, and on inputs for what is read.
+#![tactic(auto)]
+
 ghost use Rattle.std.specs.Prelude.{◌≡◌, length};
 ghost use Rattle.text.specs.Typing.{Types};
 ghost use Rattle.unlisting.specs.Unlists.{ROOM, Unlists, refusal_lines};
@@ -16,10 +18,10 @@ const MOST: usize = 32769;
 // Room for a category and the longest field.
 const ROOM: usize = LONGEST + 1;
 
-fn main() {
+fn main(rt: HostRuntime) {
     let mut input = [0u8; MOST];
-    let Input::Octets(n) = inputs::read_in(&mut input) else {
-        io::write_all(2, b"unlisting: standard input can't be read\n");
+    let Input::Octets(n) = inputs::read_in(&mut rt.stdin(), &mut input) else {
+        let _ = rt.eprintln("unlisting: standard input can't be read");
         return;
     };
     let mut output = [0u8; ROOM];
@@ -27,12 +29,12 @@ fn main() {
     let Answer::Accepted(len) = answer else {
         let mut lines = [0u8; 4096];
         let last = refusal(answer, &mut lines);
-        io::write_all(2, &lines[..last]);
+        let _ = rt.stderr().write_all(&lines[..last]);
         return;
     };
     let end = len + 1;
-    if !io::write_all(1, &output[..end]) {
-        io::write_all(2, b"unlisting: the field can't be written\n");
+    if rt.write_all(&output[..end]).is_err() {
+        let _ = rt.eprintln("unlisting: the field can't be written");
     }
 }
 

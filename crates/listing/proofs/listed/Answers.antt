@@ -1,26 +1,18 @@
 -- `listing::listed` meets its contract: no sheet is longer than the room. Assumes nothing.
-use mathlib.Core.Path.{◌≡◌, refl, sym, ap, ◌∙◌}
-use mathlib.Core.Bool.{true}
-use mathlib.Core.List.{List, ◌++◌}
-use Prim.Native.Nat.{ℕ, ◌≤◌}
-use native.Mathlib.Omega.{arith}
-use borrow.Author.Rules.{rules}
+use Rattle.std.proofs.Common.{◌≡◌, refl, sym, ap, ◌∙◌, true, List, ◌++◌, ℕ, ◌≤◌, arith, leb, length, take, drop, length-append}
+use Rattle.std.proofs.Math.Seq.{take-append_seam}
 use borrow.Author.Tests.{le-leb}
-use lib.Dec.{leb}
-use lib.ListN.{length, take, drop, length-append}
-use lib.Seq.{take-append_seam}
 use Rattle.codec.specs.Codec.{Octets}
+use Rattle.codec.proofs.Laws.Codec.{octets_all}
 use Rattle.layout.specs.declared.Answer.{Answer}
 use Rattle.layout.specs.declared.Answer.TheVariants.{Accepted}
 use Rattle.layout.specs.Answer.{length_of}
+use Rattle.layout.specs.Laws.Answer.{Accepted≢Refused}
 use Rattle.scope.specs.Sheet.{sheet_of}
 use Rattle.scope.specs.Outputs.{with_room, answer_of, after, Leaves}
-use Rattle.layout.specs.Laws.Answer.{Accepted≢Refused}
-use Rattle.codec.proofs.Laws.Codec.{octets_all}
 use Rattle.longest.specs.Longest.{longest_sheet}
 use Rattle.longest.proofs.Laws.Longest.{sheet_longest}
-use Rattle.listing.proofs.listed.Statement.{statement}
-use Rattle.listing.proofs.listed.Tie as tie
+use Rattle.listing.proofs.listed.Goals as goal
 
 -- the sheet is accepted, and stands in the front of the output
 record Stands (s : List ℕ) (a : Answer) (out : List ℕ) : Type 0 where
@@ -40,23 +32,16 @@ fits s out o room {out' = out'} l =
       front = ap (take (length (sheet_of s))) output ∙ take-append_seam (sheet_of s) rest;
     }
 
-stands : (c : tie.After-sheet) → Stands c.before.before.before.before.args.input.now c.sheet.result c.sheet.new.1.0
-stands c =
-    let k = c.before.before.before in
-    let a = k.before.args in
-    let t = a.input.now in
-    fits t a.output.now (octets_all t (λ i. omega (arith, k.shared-slice-known.given i))) k.before.requires c.sheet.ensures
-
-returns : tie.Need-returns
+pub returns-in-Accepted : goal.returns-in-Accepted
 unfolding length_of
-returns c =
-    let b = c.before.before.before.before.before in
-    let s = stands b in
-    let e = ap length_of (sym c.before.answer.given.1 ∙ s.answer) in
-    (omega (arith, e, s.within), ap (λ n. take n b.sheet.new.1.0) e ∙ s.front)
+returns-in-Accepted c =
+    let t = c.args.input.now in
+    let s = fits t c.args.output.now (octets_all t (λ i. omega (arith, c.type_inv.input i))) c.requires c.sheet-answer.ensures in
+    let e = ap length_of (sym c.in-Accepted.is ∙ s.answer) in
+    (omega (arith, e, s.within), ap (λ n. take n c.sheet-answer.new.out) e ∙ s.front)
 
-returns_2 : tie.Need-returns-2
-returns_2 c = Accepted≢Refused (sym (stands c.before.before.before.before).answer ∙ c.enum_told.given.1)
-
-pub listed_spec : {M : Type 1} → statement M
-listed_spec = tie.close (tie.spec (λ c κs. search rules) (λ c. search rules) (λ c. search rules) (λ c. search rules) returns (λ c. search rules) returns_2)
+pub returns-in-Refused : goal.returns-in-Refused
+returns-in-Refused c =
+    let t = c.args.input.now in
+    let s = fits t c.args.output.now (octets_all t (λ i. omega (arith, c.type_inv.input i))) c.requires c.sheet-answer.ensures in
+    absurd (Accepted≢Refused (sym s.answer ∙ c.in-Refused.is))
