@@ -1,0 +1,9 @@
+-- `exports::word` meets its contract. Assumes nothing.
+use mathlib.Core.Path.{refl}
+use borrow.Author.Rules.{rules}
+use Rattle.interface.specs.Packed.{word_of}
+use Rattle.exports.proofs.word.Goals as goal
+
+pub returns : goal.returns
+unfolding word_of
+returns c = refl
