@@ -1,5 +1,7 @@
 // The angle of a latitude or longitude (01, 'The sheet'; 02, Ask 7), whose numbers are steps of 180/8,388,608 degree.
 // Promises: the angle and what it leaves over are those that 01 and 02 define, for every number. Stands on scope's definitions and on no code.
+#![tactic(auto)]
+
 ghost use Rattle.std.specs.Prelude.{◌≡◌};
 ghost use Rattle.scope.specs.Angle.{udeg_of, left_of};
 ghost use Rattle.angle.specs.Half.{half_of};

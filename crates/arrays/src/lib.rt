@@ -1,6 +1,8 @@
 // The record as an array of 87 numbers, as it crosses to C: filled by reading a field, and written.
 // Promises: the answer, and every element of lent memory afterwards; an array that has not 87 places is refused, and a refusal writes nothing.
 // Stands on reader, which reads the numbers into the array itself, and on writer.
+#![tactic(auto)]
+
 ghost use Rattle.std.specs.Prelude.{◌≡◌, map, pos, length};
 ghost use Rattle.scope.specs.Outputs.{Leaves};
 ghost use Rattle.scope.specs.Reading.{read_of};

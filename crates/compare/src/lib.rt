@@ -1,5 +1,7 @@
 // Two texts beside each other: whether one begins with the other, and the first line in which they differ.
 // Promises: each is one equation of guess's definitions, for any two texts. Stands on no code.
+#![tactic(auto)]
+
 ghost use Rattle.std.specs.Prelude.{◌≡◌, ◌<◌};
 ghost use Rattle.guess.specs.Guess.{begins, first_wrong};
 ghost use Rattle.compare.specs.Lines.{counted};

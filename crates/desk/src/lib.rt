@@ -1,6 +1,8 @@
 // The slot desk (01, the section of that name): one item of a field is added, replaced or removed by a slot that was booked for it.
 // Promises: `remove` and `replace` answer and leave what 01 defines, for every input: the field written afresh with that one item changed, or a refusal that writes nothing.
 // Stands on reader and outputs, which it knows by their contracts.
+#![tactic(auto)]
+
 ghost use Rattle.std.specs.Prelude.{◌≡◌, ◌+◌, ◌-◌, ◌≤◌, length};
 ghost use Rattle.std.proofs.lemmas.List.Edits.{sets};
 ghost use Rattle.codec.specs.Change.{remove, put};

@@ -1,5 +1,7 @@
 // What says that something is there: for an item its bit in the indicator, for a subfield a number of the chain.
 // Promises: each is one equation, for every indicator, item, index and number. Stands on codec's definitions and on leaves.
+#![tactic(auto)]
+
 ghost use Rattle.std.specs.Prelude.{◌≡◌, ◌-◌, ◌^◌, ◌/◌, ◌<◌, eqb, get_or};
 ghost use Rattle.codec.specs.Item.{is_one};
 ghost use Rattle.codec.specs.Field.{flags};

@@ -1,5 +1,7 @@
 // Octets as a word writes them: pairs of hex digits in either case, `-` for none; and a list, which is one octet as two digits.
 // Promises: for every word the octets or the list that it writes, and whether it writes such; the octets taken are the octets written. Stands on text.
+#![tactic(auto)]
+
 ghost use Rattle.std.specs.Prelude.{◌≡◌, ◌<◌, ◌≤◌, length, set};
 ghost use Rattle.std.proofs.lemmas.List.Edits.{sets};
 ghost use Rattle.hex_words.specs.Octets.{hex_digit, are_hex, is_octets, octet_of, octets_of, octets_in, is_list, list_in};

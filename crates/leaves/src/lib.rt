@@ -1,5 +1,7 @@
 // Small total functions on octets and numbers that the layers above share.
 // Promises: each is one equation. Stands on nothing.
+#![tactic(auto)]
+
 ghost use Rattle.std.specs.Prelude.{◌≡◌, ◌-◌, ◌%◌, ◌<◌, take};
 
 // An octet as a number.

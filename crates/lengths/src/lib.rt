@@ -1,5 +1,7 @@
 // The constant table of lengths: every chain part and subfield of the papers with its octets, its spare bits and its pieces.
 // Promises: `format_of` says of a line what the papers' data say, and of a line behind the last that it is empty. Stands on papers.
+#![tactic(auto)]
+
 ghost use Rattle.std.specs.Prelude.{◌≡◌, ◌<◌};
 ghost use Rattle.codec.proofs.Laws.Arms.{Past};
 ghost use Rattle.lengths.specs.Lines.{placed_at, format_of, lengths, pieces};

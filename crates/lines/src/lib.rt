@@ -1,6 +1,8 @@
 // Joins the lines of an input from what each read brings.
 // Promises: what is held of a line after every octet, and where each line ends; so the lines are those of the whole input, however it was cut into
 // reads. Stands on nothing.
+#![tactic(auto)]
+
 ghost use Rattle.lines.specs.Joining.{Keeps, Joins};
 
 // The room for a line, one octet more than a line of the protocol may have: one that is too long is held so far, and so is seen to be too long.

@@ -1,5 +1,7 @@
 // Octets into the front of an output that is lent (01, 'Writing' and 'The slot desk').
 // Promises: the answer and every octet of the output afterwards; one that is too short is refused by 11, and nothing is written. Stands on scope.
+#![tactic(auto)]
+
 ghost use Rattle.scope.specs.Outputs.{with_room, Leaves};
 ghost use Rattle.std.specs.Prelude.{length};
 

@@ -1,5 +1,7 @@
 // The lines of a position (01, 'The sheet'; 02, Ask 7): a latitude and a longitude, behind each its angle and what that leaves over.
 // Promises: the lines are those that 01 and 02 define, for any two numbers. Stands on angle, on text, and on scope's definition of the sheet.
+#![tactic(auto)]
+
 ghost use Rattle.std.specs.Prelude.{◌++◌};
 ghost use Rattle.papers.specs.Names.{angle, text};
 ghost use Rattle.scope.specs.Sheet.{key_line, signed_decimal, number_text};

@@ -1,5 +1,7 @@
 // The pressure that a barometric number stands for (01, 'The sheet'; 02, Ask 1), as lines behind the number's own.
 // Promises: the lines are those that 01 and 02 define, for every number. Stands on scope's definition of them and on text.
+#![tactic(auto)]
+
 ghost use Rattle.scope.specs.Pressure.{sense_of};
 ghost use Rattle.scope.specs.Sheet.{key_line, pressure_text};
 ghost use Rattle.text.specs.Typing.{Types};

@@ -1,5 +1,5 @@
 -- Demand 2 for a program in C, from the promises of `ref_read` and `ref_write` alone: "Writing what was read gives the same octets; reading what was written gives the same record".
-use Rattle.std.specs.Prelude.{◌≡◌, Bool, true, false, ◌&&◌, ℕ, zero, suc, ◌+◌, ◌-◌, ◌^◌, ◌≤◌, ◌<◌, ltb, eqb, ℤ, pos, take, drop, replicate}
+use Rattle.std.specs.Prelude.{◌≡◌, Bool, true, false, ◌&&◌, ℕ, zero, suc, ◌-◌, ◌^◌, ◌≤◌, ◌<◌, ltb, eqb, ℤ, pos, take, drop, replicate}
 use Rattle.std.proofs.Math.Path.{refl, sym, ap, subst}
 use Rattle.std.proofs.Common.{◌∙◌, arith, lt→ltb, eqb→eq}
 use mathlib.Core.List.{List, [], ◌∷◌, ◌++◌}

@@ -1,6 +1,8 @@
 // Takes a line of the co-process apart (docs/PROTOCOL.md): one parser for all requests, whose forms are data.
 // Promises: for every line the request that it is and where its words start, or the number of its first word that is wrong; the record that
 // starts at a place. Stands on words.
+#![tactic(auto)]
+
 ghost use Rattle.std.specs.Prelude.{◌≡◌, ◌+◌, ◌<◌, ◌≤◌, length, drop, set};
 ghost use Rattle.std.proofs.lemmas.List.Edits.{sets};
 ghost use Rattle.papers.specs.Papers.{SLOTS};

@@ -3,6 +3,8 @@
 // Promises: each answers what 01 defines, for every category and every octet string; octets from LEN on are never looked at.
 // The survey is the one walk that refuses (module places, on lines); the numbers of an accepted field are taken by rows, on taking and numbers, which test
 // nothing. Stands on lengths, shapes and spots.
+#![tactic(auto)]
+
 ghost use Rattle.std.specs.Prelude.{◌≡◌, true, ◌<◌, pos, length, replicate};
 ghost use Rattle.papers.specs.Papers.{known, items_of};
 ghost use Rattle.scope.specs.Desk.{item_is};

@@ -3,6 +3,8 @@
 // Promises: `rebuild` gives the category and the octets of exactly the sheets of accepted fields, and refuses every other text at the line that 02 says, and a
 // sheet by 11 where there is no room; a refusal has category 0 and writes nothing. Stands on taken for what the text holds, on writer, sheet and text for what
 // is printed, on walk and compare for the two texts, and on outputs.
+#![tactic(auto)]
+
 ghost use Rattle.std.specs.Prelude.{◌≡◌, ◌∷◌, ℕ};
 ghost use Rattle.codec.specs.Field.{Contents};
 ghost use Rattle.layout.specs.Answer.{length_of};

@@ -1,5 +1,7 @@
 // The answers of the co-process in words: what each operation answered is typed into a buffer, `ok` and what was asked for, or `refused`, number and place.
 // Promises: every octet of the text. Stands on text.
+#![tactic(auto)]
+
 ghost use Rattle.std.specs.Prelude.{◌≡◌};
 ghost use Rattle.papers.specs.Names.{text};
 ghost use Rattle.text.specs.Typing.{Types};

@@ -1,6 +1,8 @@
 // Answers a line of the co-process (docs/PROTOCOL.md): the parser says which request it is and where its words start, and a handler answers by the words.
 // Promises: for every line the answer that the protocol defines. Stands on protocol, words and replies, and on the operations, which it knows by
 // their contracts.
+#![tactic(auto)]
+
 ghost use Rattle.std.specs.Prelude.{◌≡◌, ◌∷◌, ◌<◌, ◌≤◌, length};
 ghost use Rattle.codec.specs.Change.{remove, put};
 ghost use Rattle.scope.specs.Desk.{edit_of};

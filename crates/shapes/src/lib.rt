@@ -1,6 +1,8 @@
 // The constant table of shapes: the lines of each item that some paper has.
 // Promises: `shape_at` says what the papers' data say; past the table stands an item of one empty line.
 // Stands on papers, and on lengths for the numbers of the lines.
+#![tactic(auto)]
+
 ghost use Rattle.std.specs.Prelude.{◌≡◌, ◌<◌};
 ghost use Rattle.codec.proofs.Laws.Arms.{Past};
 ghost use Rattle.shapes.specs.Shapes.{shapes, shape_at};

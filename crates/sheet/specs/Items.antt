@@ -1,5 +1,5 @@
 -- The text of an item: what the code types by its groups of keys is what the sheet has.
-use Rattle.std.specs.Prelude.{◌≡◌, List, [], ◌∷◌, ◌++◌, ℕ, ◌+◌, ℤ, length, get_or, take}
+use Rattle.std.specs.Prelude.{◌≡◌, List, [], ◌∷◌, ◌++◌, ℕ, ℤ, length, get_or, take}
 use Rattle.codec.specs.Item.{slots}
 use Rattle.papers.specs.Names.{Named, names048, names021, names007}
 use Rattle.layout.specs.Laws.Slots.{Holds}

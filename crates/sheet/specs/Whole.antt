@@ -1,5 +1,5 @@
 -- The whole sheet, from the record that was read.
-use Rattle.std.specs.Prelude.{List, [], ◌++◌, ℕ, ◌+◌}
+use Rattle.std.specs.Prelude.{List, [], ◌++◌, ℕ}
 use Rattle.codec.specs.Field.{flags}
 use Rattle.papers.specs.Names.{text, names_of}
 use Rattle.papers.specs.Papers.{paper_of}

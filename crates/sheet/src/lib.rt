@@ -1,6 +1,8 @@
 // The sheet of an input, a category octet and a field: what the maker and the buyer's engineer read.
 // Promises: every octet of the text, its length and the rest of the output; 11 where the output is short.
 // Stands on reader for the record, on text for words and decimals, on position and pressure, and on outputs.
+#![tactic(auto)]
+
 ghost use Rattle.std.specs.Prelude.{◌≡◌, true, ◌∷◌, ◌+◌, ◌≤◌, T, length, drop};
 ghost use Rattle.codec.specs.Field.{flags};
 ghost use Rattle.papers.specs.Names.{text};

@@ -1,6 +1,8 @@
 // The constant table of spots: where each category keeps its items.
 // Promises: `spot_at` and `spot_of` say what the papers' data say; past the table stands the first spot.
 // Stands on papers, and on shapes for the numbers of the items.
+#![tactic(auto)]
+
 ghost use Rattle.std.specs.Prelude.{◌≡◌, ◌<◌};
 ghost use Rattle.codec.proofs.Laws.Arms.{Past};
 ghost use Rattle.spots.specs.Spots.{spots, spot_at, spot_of};

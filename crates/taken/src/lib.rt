@@ -1,6 +1,8 @@
 // What a text would hold if it were a sheet (02, Ask 6), taken in one walk over the tables and the text's lines that refuses nothing: where a line says nothing
 // that could stand there, something that can be printed is taken.
 // Promises: `record` gives the record of the guess, for every text. Stands on walk and compare for lines and words, on flags, and on lengths, shapes and spots.
+#![tactic(auto)]
+
 ghost use Rattle.std.specs.Prelude.{◌≡◌, ◌+◌, ◌-◌, ◌^◌, ◌≤◌, ◌<◌, T, pos, set, drop};
 ghost use Rattle.std.proofs.lemmas.List.Edits.{sets};
 ghost use Rattle.codec.specs.Line.{count};

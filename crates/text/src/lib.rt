@@ -1,6 +1,8 @@
 // Types the words of the sheet and of answers one behind the other into a buffer: each function puts its word at a place and answers the place behind it.
 // Promises: every octet of the buffer and the place, numbers in decimal as 01 has them, octets in hex digits; what has no room is left out, so that no caller has to count.
 // Stands on scope's definition of the sheet.
+#![tactic(auto)]
+
 ghost use Rattle.std.specs.Prelude.{◌≡◌, [], ◌∷◌, ◌+◌, ◌%◌, ◌<◌};
 ghost use Rattle.scope.specs.Sheet.{digits_of, decimal, signed_decimal, key_line};
 ghost use Rattle.text.specs.Typing.{Types};

@@ -1,5 +1,7 @@
 // The view of an item and the choice between two fields (01, 'Views and the choice between two fields').
 // Promises: the answers and the parts are those that 01 defines, for every input. Stands on reader, which it knows by its contracts.
+#![tactic(auto)]
+
 ghost use Rattle.std.specs.Prelude.{◌≡◌, ℕ, ◌+◌, ◌-◌, ◌≤◌, ◌<◌, length};
 ghost use Rattle.layout.specs.declared.View.TheVariants.{Shown};
 ghost use Rattle.scope.specs.Views.{view_of, part_of, choose_of, chosen_of};

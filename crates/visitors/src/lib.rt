@@ -2,6 +2,8 @@
 // Promises: `copy` answers and leaves what scope defines, for every input: the field written afresh without the items on the list, or a refusal that writes
 // nothing. So it tells nothing of what is withheld (demands: Visitors). It promises nothing of how long it takes.
 // Stands on desk, reader and outputs, which it knows by their contracts.
+#![tactic(auto)]
+
 ghost use Rattle.std.specs.Prelude.{◌≡◌, ◌≤◌, ◌++◌, length, take, drop};
 ghost use Rattle.scope.specs.Visitors.{Copied};
 ghost use Rattle.visitors.specs.Passing.{passed_of};

@@ -1,5 +1,7 @@
 // The lines of a text: the first line and what follows, its words, and its value as a number.
 // Promises: each is one equation, for every text: of guess's definitions where they have it. Stands on words for the numbers.
+#![tactic(auto)]
+
 ghost use Rattle.std.specs.Prelude.{◌≡◌, [], get_or, drop};
 ghost use Rattle.guess.specs.Lines.{before_octet, behind_octet, until_feed, behind_feed, behind_feeds};
 ghost use Rattle.guess.specs.Guess.{value_in, bounded_in};

@@ -1,6 +1,8 @@
 // The words of a line and the numbers that they write: one space stands between two words, numbers are plain decimals.
 // Promises: for every line the word that starts at a place; for every word the number that it writes, and whether it writes one; the number taken is the number written.
 // Stands on text, which says what a decimal means.
+#![tactic(auto)]
+
 ghost use Rattle.std.specs.Prelude.{◌≡◌, ◌+◌, ◌-◌, ◌*◌, ◌<◌, ◌≤◌, drop};
 ghost use Rattle.text.specs.Decimals.{is_digit};
 ghost use Rattle.words.specs.Lines.{word_length, word_of};

@@ -1,5 +1,5 @@
 -- LEN and the indicator before the items: the field of a record.
-use Rattle.std.specs.Prelude.{◌≡◌, List, ◌++◌, ℕ, ◌+◌, T, ℤ, length, drop}
+use Rattle.std.specs.Prelude.{◌≡◌, List, ◌++◌, ℕ, T, ℤ, length, drop}
 use Rattle.layout.specs.declared.Record.{Record}
 use Rattle.scope.specs.Writing.{writable, written}
 

@@ -1,6 +1,8 @@
 // Writes a record as a field: `write` answers its length and leaves the field in the front of the output.
 // Promises: the answer and every octet of the output are what 01 defines, for every value of the record; a refusal writes nothing.
 // Stands on lengths, shapes and spots, by which it lays the octets, and on reader's promise: a record is right exactly if what is laid of it reads back to it.
+#![tactic(auto)]
+
 ghost use Rattle.std.specs.Prelude.{◌≡◌, true, List, ◌+◌, ◌≤◌, T, ltb, ℤ, length, drop};
 ghost use Rattle.codec.specs.Codec.{opt};
 ghost use Rattle.codec.specs.Line.{line};

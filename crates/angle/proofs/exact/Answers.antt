@@ -111,18 +111,17 @@ overflow_mul-product c = rw (to_z-of_z (overflow_cast-product c), to_z-of_z c.ra
 pub overflow_add-udeg : goal.overflow_add-udeg
 overflow_add-udeg c =
     let half_is : to_z w64 (of_z w64 c.half.result) ≡ c.half.result =
-        to_z-of_z {w = w64} {z = c.half.result} (sfits_of c.half.type_inv) in
+    to_z-of_z {w = w64} {z = c.half.result} (sfits_of c.half.type_inv) in
     let half_size : mag c.half.result ≤ 1_000_000 =
-        subst (λ z. mag z ≤ 1_000_000) (sym c.half.ensures) (half_small _) in
+    subst (λ z. mag z ≤ 1_000_000) (sym c.half.ensures) (half_small _) in
     rw (half_is, to_z-of_z (overflow_mul-product c.before), to_z-of_z (overflow_cast-product c.before), to_z-of_z c.ranges.n) (sum_fits c.args.n _ c.ranges.n tt _ half_size)
 
 pub nonzero_div-udeg : goal.nonzero_div-udeg
 nonzero_div-udeg c =
     let half_is : to_z w64 (of_z w64 c.half.result) ≡ c.half.result =
-        to_z-of_z {w = w64} {z = c.half.result} (sfits_of c.half.type_inv) in
+    to_z-of_z {w = w64} {z = c.half.result} (sfits_of c.half.type_inv) in
     let half_size : mag c.half.result ≤ 1_000_000 =
-        subst (λ z. mag z ≤ 1_000_000) (sym c.half.ensures) (half_small _) in
-    (
+    subst (λ z. mag z ≤ 1_000_000) (sym c.half.ensures) (half_small _) in (
       omega arith,
       rw (to_z-of_z (overflow_add-udeg c), half_is, to_z-of_z (overflow_mul-product c.before), to_z-of_z (overflow_cast-product c.before), to_z-of_z c.ranges.n)
           (quotient_fits c.args.n _ c.ranges.n tt _ half_size),
@@ -131,18 +130,18 @@ nonzero_div-udeg c =
 pub overflow_mul-result : goal.overflow_mul-result
 overflow_mul-result c =
     let half_is : to_z w64 (of_z w64 c.half.result) ≡ c.half.result =
-        to_z-of_z {w = w64} {z = c.half.result} (sfits_of c.half.type_inv) in
+    to_z-of_z {w = w64} {z = c.half.result} (sfits_of c.half.type_inv) in
     let half_size : mag c.half.result ≤ 1_000_000 =
-        subst (λ z. mag z ≤ 1_000_000) (sym c.half.ensures) (half_small _) in
+    subst (λ z. mag z ≤ 1_000_000) (sym c.half.ensures) (half_small _) in
     rw (to_z-of_z (nonzero_div-udeg c).1, to_z-of_z (overflow_add-udeg c), half_is, to_z-of_z (overflow_mul-product c.before), to_z-of_z (overflow_cast-product c.before), to_z-of_z c.ranges.n)
     (back_fits c.args.n _ c.ranges.n tt _ half_size _ tt)
 
 pub overflow_sub-result : goal.overflow_sub-result
 overflow_sub-result c =
     let half_is : to_z w64 (of_z w64 c.half.result) ≡ c.half.result =
-        to_z-of_z {w = w64} {z = c.half.result} (sfits_of c.half.type_inv) in
+    to_z-of_z {w = w64} {z = c.half.result} (sfits_of c.half.type_inv) in
     let half_size : mag c.half.result ≤ 1_000_000 =
-        subst (λ z. mag z ≤ 1_000_000) (sym c.half.ensures) (half_small _) in
+    subst (λ z. mag z ≤ 1_000_000) (sym c.half.ensures) (half_small _) in
     rw (to_z-of_z (overflow_mul-result c), to_z-of_z (nonzero_div-udeg c).1, to_z-of_z (overflow_add-udeg c), half_is, to_z-of_z (overflow_mul-product c.before), to_z-of_z (overflow_cast-product c.before), to_z-of_z c.ranges.n)
     (search (difference_fits, product_below, back_small, c.ranges.n, half_size))
 
@@ -150,7 +149,7 @@ pub returns : goal.returns
 unfolding left_of
 returns c =
     let half_is : to_z w64 (of_z w64 c.half.result) ≡ c.half.result =
-        to_z-of_z {w = w64} {z = c.half.result} (sfits_of c.half.type_inv) in
+    to_z-of_z {w = w64} {z = c.half.result} (sfits_of c.half.type_inv) in
     let x = c.args.n in
     rw (to_z-of_z (overflow_sub-result c), to_z-of_z (overflow_mul-result c), to_z-of_z (nonzero_div-udeg c).1, to_z-of_z (overflow_add-udeg c), half_is, c.half.ensures, to_z-of_z (overflow_mul-product c.before), to_z-of_z (overflow_cast-product c.before), to_z-of_z c.ranges.n)
     (quotient_is x, ap (λ q. x *ℤ pos 703_125 -ℤ q *ℤ pos 32_768) (quotient_is x))

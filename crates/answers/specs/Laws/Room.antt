@@ -1,5 +1,5 @@
 -- Every answer has room in the buffer of 4,096 octets, so that what was typed is the answer, whole.
-use Rattle.std.specs.Prelude.{◌≡◌, refl, Bool, true, false, List, [], ◌∷◌, ◌++◌, ℕ, ◌+◌, ◌-◌, ◌≤◌, ◌<◌, leb, ltb, eqb, length, take, drop}
+use Rattle.std.specs.Prelude.{◌≡◌, refl, Bool, true, false, List, [], ◌∷◌, ◌++◌, ℕ, ◌-◌, ◌≤◌, ◌<◌, leb, ltb, eqb, length, take, drop}
 use Rattle.std.proofs.Common.{sym, ap, ◌∙◌, arith, leb-true, lt-ltb, ltb-true, ltb-false, ltb→lt, length-append, length-take, take_all}
 use Rattle.codec.specs.Pick.{pick}
 use Rattle.codec.specs.Codec.{Octets}

@@ -2,14 +2,12 @@
 use mir.Syntax.{w32}
 use mathlib.Core.Path.{◌≡◌, refl, sym, ap, ◌∙◌}
 use mathlib.Core.Bool.{Bool}
-use Prim.Native.Nat.{◌-◌, ◌≤◌}
 use native.Mathlib.Omega.{arith}
-use borrow.Author.Rules.{rules, sfits_of}
-use lib.IntN.{ℤ, pos}
+use borrow.Author.Rules.{sfits_of}
+use lib.IntN.{ℤ}
 use mir.Val.{SFits, to_z, of_z}
-use lib.ListN.{length, drop, get_or}
 use mir.Facts.{to_z-of_z}
-use Rattle.interface.specs.Arrays.{is_octet, are_octets}
+use Rattle.interface.specs.Arrays.{is_octet}
 use Rattle.interface.proofs.Laws.Octets.{octets_more, octets_not, octets_all}
 use Rattle.arrays.proofs.are_octets.Goals as goal
 

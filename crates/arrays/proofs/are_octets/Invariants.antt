@@ -1,13 +1,7 @@
-use mathlib.Core.Path.{◌≡◌, refl, sym, ap, ◌∙◌}
-use mathlib.Core.Bool.{Bool}
+use mathlib.Core.Path.{◌≡◌}
 use Prim.Native.Nat.{◌-◌, ◌≤◌}
-use native.Mathlib.Omega.{arith}
-use borrow.Author.Rules.{rules, sfits_of}
-use lib.IntN.{pos}
-use lib.ListN.{length, drop, get_or}
-use mir.Facts.{to_z-of_z}
-use Rattle.interface.specs.Arrays.{is_octet, are_octets}
-use Rattle.interface.proofs.Laws.Octets.{octets_more, octets_not, octets_all}
+use lib.ListN.{length, drop}
+use Rattle.interface.specs.Arrays.{are_octets}
 use Rattle.arrays.proofs.are_octets.Given as goal
 
 abbrev pub invariant-loop-i : goal.invariant-loop-i

@@ -1,11 +1,7 @@
-use mathlib.Core.Path.{◌≡◌, refl, ◌∙◌}
+use mathlib.Core.Path.{◌≡◌}
 use Prim.Native.Nat.{◌-◌, ◌≤◌}
-use native.Mathlib.Omega.{arith}
-use borrow.Author.Rules.{rules, sfits_of}
-use lib.IntN.{pos}
-use lib.ListN.{length, length-set}
-use mir.Facts.{to_z-of_z}
-use Rattle.interface.proofs.Laws.Copies.{copied, copied_more, copied_all}
+use lib.ListN.{length}
+use Rattle.interface.proofs.Laws.Copies.{copied}
 use Rattle.arrays.proofs.copy.Given as goal
 
 abbrev pub invariant-loop-i : goal.invariant-loop-i

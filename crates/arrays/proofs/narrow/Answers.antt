@@ -1,15 +1,13 @@
 -- `arrays::narrow` meets its contract: the loop has put the numbers passed. Assumes nothing.
 use mir.Syntax.{w32}
-use mathlib.Core.Path.{◌≡◌, refl, ap, ◌∙◌}
-use mathlib.Core.List.{map}
-use Prim.Native.Nat.{◌-◌, ◌≤◌}
+use mathlib.Core.Path.{refl, ap, ◌∙◌}
 use native.Mathlib.Omega.{arith}
-use borrow.Author.Rules.{rules, sfits_of}
+use borrow.Author.Rules.{sfits_of}
 use lib.IntN.{pos}
-use lib.ListN.{length, length-set}
+use lib.ListN.{length-set}
 use mir.Facts.{to_z-of_z}
 use Rattle.interface.specs.Arrays.{octet_of}
-use Rattle.interface.proofs.Laws.Copies.{copied, mapped_more, mapped_all}
+use Rattle.interface.proofs.Laws.Copies.{mapped_more, mapped_all}
 use Rattle.arrays.proofs.narrow.Goals as goal
 
 pub loop-i-preserved : goal.loop-i-preserved

@@ -1,13 +1,9 @@
-use mathlib.Core.Path.{◌≡◌, refl, ap, ◌∙◌}
+use mathlib.Core.Path.{◌≡◌}
 use mathlib.Core.List.{map}
 use Prim.Native.Nat.{◌-◌, ◌≤◌}
-use native.Mathlib.Omega.{arith}
-use borrow.Author.Rules.{rules, sfits_of}
-use lib.IntN.{pos}
-use lib.ListN.{length, length-set}
-use mir.Facts.{to_z-of_z}
+use lib.ListN.{length}
 use Rattle.interface.specs.Arrays.{octet_of}
-use Rattle.interface.proofs.Laws.Copies.{copied, mapped_more, mapped_all}
+use Rattle.interface.proofs.Laws.Copies.{copied}
 use Rattle.arrays.proofs.narrow.Given as goal
 
 abbrev pub invariant-loop-i : goal.invariant-loop-i

@@ -1,16 +1,14 @@
 -- `arrays::read_array` meets its contract: one law at each way out. Assumes nothing.
-use mathlib.Core.Path.{◌≡◌, sym, ◌∙◌}
-use mathlib.Core.List.{List}
+use mathlib.Core.Path.{sym, ◌∙◌}
 use native.Mathlib.Omega.{arith}
-use borrow.Author.Rules.{rules, sfits_of}
-use lib.IntN.{ℤ}
-use lib.ListN.{length, take, drop, length-set}
+use borrow.Author.Rules.{sfits_of}
+use lib.ListN.{length-set}
 use mir.Syntax.{w32}
 use mir.Val.{to_z, of_z}
 use mir.Facts.{to_z-of_z}
 use Rattle.codec.specs.Codec.{Octets}
 use Rattle.codec.proofs.Laws.Codec.{octets_all}
-use Rattle.interface.proofs.Laws.Arrays.{lent, returned, begun, returned-length, begun-length, parts_room, finished-length, two_there, parts_many, filled_other, filled_refused, filled_accepted}
+use Rattle.interface.proofs.Laws.Arrays.{returned, returned-length, begun-length, parts_room, finished-length, two_there, parts_many, filled_other, filled_refused, filled_accepted}
 use Rattle.arrays.proofs.read_array.Goals as goal
 
 pub returns-in_default : goal.returns-in_default
@@ -36,8 +34,11 @@ slice_bounds-widen-end c =
 
 pub slice_bounds-widen-end-then-out-eq-PLACES : goal.slice_bounds-widen-end-then-out-eq-PLACES
 slice_bounds-widen-end-then-out-eq-PLACES c =
-    omega (arith, begun-length c.args.out.now c.if-out-eq-PLACES.true c.read_into-a.new.numbers c.read_into-a.auto.numbers
-    (to_z w32 (of_z w32 c.signed.result)) (to_z w32 (of_z w32 c.signed-then-out-eq-PLACES.result)))
+    omega (
+      arith,
+      begun-length c.args.out.now c.if-out-eq-PLACES.true c.read_into-a.new.numbers c.read_into-a.auto.numbers
+          (to_z w32 (of_z w32 c.signed.result)) (to_z w32 (of_z w32 c.signed-then-out-eq-PLACES.result)),
+    )
 
 pub widen-requires : goal.widen-requires
 widen-requires c =

@@ -1,7 +1,7 @@
 -- `arrays::record_of` meets its contract. Assumes nothing.
 use mir.Syntax.{w32}
 use mathlib.Core.Path.{ap, ◌∙◌}
-use borrow.Author.Rules.{rules, sfits_of}
+use borrow.Author.Rules.{sfits_of}
 use mir.Facts.{to_z-of_z}
 use Rattle.interface.specs.Arrays.{octet_of}
 use Rattle.interface.proofs.Laws.Arrays.{record_made}

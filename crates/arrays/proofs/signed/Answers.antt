@@ -1,6 +1,5 @@
 -- `arrays::signed` meets its contract. Assumes nothing.
 use native.Mathlib.Omega.{arith}
-use borrow.Author.Rules.{rules}
 use mir.Syntax.{w32}
 use mir.ValLaws.{to_z_pos}
 use Rattle.arrays.proofs.signed.Goals as goal

@@ -1,14 +1,12 @@
 -- `arrays::widen` meets its contract: the loop has put the octets passed. Assumes nothing.
 use mir.Syntax.{w32}
-use mathlib.Core.Path.{◌≡◌, refl, ◌∙◌}
-use mathlib.Core.List.{map}
-use Prim.Native.Nat.{◌-◌, ◌≤◌}
+use mathlib.Core.Path.{refl, ◌∙◌}
 use native.Mathlib.Omega.{arith}
-use borrow.Author.Rules.{rules, sfits_of}
+use borrow.Author.Rules.{sfits_of}
 use lib.IntN.{pos}
-use lib.ListN.{length, length-set}
+use lib.ListN.{length-set}
 use mir.Facts.{to_z-of_z}
-use Rattle.interface.proofs.Laws.Copies.{copied, mapped_more, mapped_all}
+use Rattle.interface.proofs.Laws.Copies.{mapped_more, mapped_all}
 use Rattle.arrays.proofs.widen.Goals as goal
 
 pub loop-i-preserved : goal.loop-i-preserved

@@ -2,11 +2,10 @@
 use mir.Syntax.{w32}
 use mathlib.Core.Path.{◌≡◌, sym, ap, ◌∙◌}
 use mathlib.Core.Bool.{Bool}
-use borrow.Author.Rules.{rules, sfits_of}
-use lib.IntN.{ℤ, pos}
+use borrow.Author.Rules.{sfits_of}
+use lib.IntN.{ℤ}
 use Prim.Native.Nat.{ℕ}
 use mir.Val.{SFits, to_z, of_z}
-use lib.ListN.{get_or}
 use mir.Facts.{to_z-of_z}
 use Rattle.papers.specs.Papers.{known}
 use Rattle.interface.specs.Arrays.{octet_of}

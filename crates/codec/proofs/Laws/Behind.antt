@@ -1,5 +1,5 @@
 -- "octets after the first LEN are never looked at" (01, 'The field'): of two strings that begin alike, LEN octets and LEN itself, one reading.
-use Rattle.std.specs.Prelude.{◌≡◌, refl, List, [], ◌∷◌, ◌++◌, ℕ, suc, ◌+◌, ◌-◌, ◌≤◌, ltb, length}
+use Rattle.std.specs.Prelude.{◌≡◌, refl, List, [], ◌∷◌, ◌++◌, ℕ, suc, ◌-◌, ◌≤◌, ltb, length}
 use Rattle.std.proofs.Common.{sym, ◌∙◌, not-suc-le-zero, arith, length-append, le-ltb}
 use Rattle.std.proofs.lemmas.List.{take-append-le}
 use Rattle.codec.specs.Codec.{Codec}

@@ -13,7 +13,6 @@ use Rattle.std.proofs.Math.Seq.{drop-append_seam, length-take-le}
 use borrow.Author.Tests.{eqb-true, eqb-false, ltb-true, ltb-false, leb-true, leb-false, ne_eqb}
 use Rattle.codec.specs.Pick.{pick}
 use Rattle.codec.specs.Codec.{Octets, Res, got, bad, map_res, shift, and_then, check, Codec, opt, pair_up, seq}
-use Rattle.codec.specs.Codec as codec
 use Rattle.codec.specs.Line.{Held, Line, count, clear, nums, in_limits, line}
 use Rattle.codec.specs.Item.{slots_of, slots, nothing, beside, chain, is_one, subfields, item}
 use Rattle.codec.specs.Field.{first_flag, next_flags, place, row, flags, no_spare, indicator, Contents, body}

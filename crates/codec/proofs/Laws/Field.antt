@@ -1,5 +1,5 @@
 -- The row of items and what follows LEN keep the round trips. A field is its flags and its texts.
-use Rattle.std.specs.Prelude.{◌≡◌, refl, false, List, [], ◌∷◌, ◌++◌, ℕ, zero, suc, ◌+◌, ◌<◌, T, eqb, length, get_or}
+use Rattle.std.specs.Prelude.{◌≡◌, refl, false, List, [], ◌∷◌, ◌++◌, ℕ, zero, suc, ◌<◌, T, eqb, length, get_or}
 use Rattle.std.proofs.Common.{sym, ap, ap₂, ◌∙◌}
 use Rattle.codec.specs.Radix.{total, join, ones}
 use Rattle.codec.specs.Codec.{bad, Lawful, opt, number}

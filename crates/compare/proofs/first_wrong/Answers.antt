@@ -1,9 +1,8 @@
 -- `compare::first_wrong` meets its contract: from each place that the loop reaches the first wrong line is the same. Assumes nothing.
-use mathlib.Core.Path.{◌≡◌, refl, sym, ◌∙◌}
-use Prim.Native.Nat.{◌+◌, ◌-◌, ◌≤◌}
+use mathlib.Core.Path.{refl, sym, ◌∙◌}
+use Prim.Native.Nat.{◌+◌}
 use native.Mathlib.Omega.{arith}
-use lib.ListN.{length, get_or, drop}
-use Rattle.guess.specs.Guess.{first_wrong}
+use lib.ListN.{get_or}
 use Rattle.compare.specs.Laws.Compared.{counted_most, wrong_end, wrong_more_text, wrong_less-text, wrong_here, wrong_on}
 use Rattle.compare.proofs.first_wrong.Goals as goal
 

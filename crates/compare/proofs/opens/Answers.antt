@@ -1,9 +1,6 @@
 -- `compare::opens` meets its contract: what is left of the text begins with what is left of the word exactly if it does at all. Assumes nothing.
-use mathlib.Core.Path.{◌≡◌, refl, sym, ◌∙◌}
-use Prim.Native.Nat.{◌-◌}
+use mathlib.Core.Path.{refl, sym, ◌∙◌}
 use native.Mathlib.Omega.{arith}
-use lib.ListN.{length, drop}
-use Rattle.guess.specs.Guess.{begins}
 use Rattle.compare.specs.Laws.Compared.{begins_end, begins_short, begins_other, begins_more}
 use Rattle.compare.proofs.opens.Goals as goal
 

@@ -1,9 +1,7 @@
-use mathlib.Core.Path.{◌≡◌, refl, sym, ◌∙◌}
+use mathlib.Core.Path.{◌≡◌}
 use Prim.Native.Nat.{◌-◌}
-use native.Mathlib.Omega.{arith}
 use lib.ListN.{length, drop}
 use Rattle.guess.specs.Guess.{begins}
-use Rattle.compare.specs.Laws.Compared.{begins_end, begins_short, begins_other, begins_more}
 use Rattle.compare.proofs.opens.Given as goal
 
 abbrev pub invariant-loop-i : goal.invariant-loop-i

@@ -38,7 +38,6 @@ use Rattle.scope.specs.Views.{is_item}
 use Rattle.scope.specs.Desk.{listed, edit_of, Edited}
 use Rattle.scope.proofs.Laws.Reading.{Read, read_made, read_okay, read_then_write}
 use Rattle.scope.proofs.Laws.Edits.{Edit, edit_splice, edit_read, edited_octets, edit_afresh}
-use Rattle.scope.proofs.Laws.Views.{field_is}
 use Rattle.demands.specs.Edited.{edit_gives, edit_done, others_kept}
 use Rattle.demands.proofs.Kept.Fields.{holds_field, field_holds, flatten_is}
 use Rattle.demands.proofs.Kept.Refusals.{alone_octets}

@@ -16,12 +16,12 @@ use Rattle.layout.specs.declared.Answer.TheVariants.{Accepted}
 use Rattle.layout.specs.Laws.Answer.{Refused≢Accepted}
 use Rattle.scope.specs.Outputs.{answer_of, after}
 use Rattle.scope.specs.Sheet.{sheet_of}
-use Rattle.scope.specs.Rebuilding.{are_lines, category_given, octets_given, Right, Refusal, long, line_wrong, length_wrong, no_room}
+use Rattle.scope.specs.Rebuilding.{are_lines, category_given, octets_given, Right, long, line_wrong, length_wrong, no_room}
 use Rattle.guess.proofs.Laws.Fits.{feeds, feeds-append}
 use Rattle.guess.specs.Guess.{rebuild_of}
 use Rattle.guess.proofs.Laws.Wrong.{lines_feeds}
 use Rattle.guess.proofs.Laws.Rebuilt as rebuilt
-use Rattle.demands.specs.Terms.{IsField, Fault, handed_out}
+use Rattle.demands.specs.Terms.{IsField, handed_out}
 use Rattle.demands.specs.Leftovers.{Nowhere}
 use Rattle.demands.specs.Rebuilding.{refused_at, Printed, Agrees, IsSheet, Kind, too_long, a_sheet, but_length, wrong_line, Rebuilding}
 use Rattle.demands.specs.Defined.{handed, program}

@@ -1,5 +1,4 @@
 -- `desk::allowed` meets its contract: one law at each way out. Assumes nothing.
-use borrow.Author.Rules.{rules}
 use Rattle.desk.specs.Laws.Edits.{allowed_refused, allowed_yes, allowed_no}
 use Rattle.desk.proofs.allowed.Goals as goal
 

@@ -1,5 +1,4 @@
 -- `desk::asked` meets its contract: one law at each way out. Assumes nothing.
-use borrow.Author.Rules.{rules}
 use Rattle.desk.specs.Laws.Asking.{asked_none, asked_on, asked_off}
 use Rattle.desk.proofs.asked.Goals as goal
 

@@ -1,5 +1,4 @@
 -- `desk::exchanged` meets its contract. Assumes nothing.
-use borrow.Author.Rules.{rules}
 use Rattle.desk.specs.Laws.Edits.{exchange_parts, exchange_leaves}
 use Rattle.desk.proofs.exchanged.Goals as goal
 

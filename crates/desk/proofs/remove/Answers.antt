@@ -1,7 +1,6 @@
 -- `desk::remove` meets its contract: one law at each way out. Assumes nothing.
 use mathlib.Core.Path.{refl, ap, ◌∙◌}
 use native.Mathlib.Omega.{arith}
-use borrow.Author.Rules.{rules}
 use lib.ListN.{length}
 use Rattle.codec.specs.Change.{remove, set_flag}
 use Rattle.codec.proofs.Laws.Change.{new_octets, new_flag}

@@ -2,7 +2,6 @@
 use mathlib.Core.Path.{◌≡◌, refl, sym, ap, ◌∙◌}
 use Prim.Native.Nat.{◌-◌}
 use native.Mathlib.Omega.{arith}
-use borrow.Author.Rules.{rules}
 use lib.ListN.{length}
 use Rattle.codec.specs.Change.{put, set_flag}
 use Rattle.codec.proofs.Laws.Change.{new_octets, new_flag}
@@ -21,9 +20,9 @@ pub exchanged-requires : goal.exchanged-requires
 unfolding new_octets
 exchanged-requires c =
     let told : (let a = c.args in c.is_item.result ≡ right_of a.cat (a.item - 1) a.new.now) =
-        let a = c.args in
-        let f = allowed-found a.cat a.field.now a.list a.item c.allowed-found.ensures c.in-Accepted.is in
-        item_asked a.cat a.field.now f.0 c.in-Accepted.is a.list a.item refl f.1 a.new.now c.index-i.ensures c.is_item.ensures in
+    let a = c.args in
+    let f = allowed-found a.cat a.field.now a.list a.item c.allowed-found.ensures c.in-Accepted.is in
+    item_asked a.cat a.field.now f.0 c.in-Accepted.is a.list a.item refl f.1 a.new.now c.index-i.ensures c.is_item.ensures in
     let a = c.args in
     let f = allowed-found a.cat a.field.now a.list a.item c.allowed-found.ensures c.in-Accepted.is in
     let p = edit_right a.cat a.field.now f.0 c.in-Accepted.is a.list a.item refl f.1 a.new.now (sym told ∙ c.if-is_item.true) in
@@ -34,9 +33,9 @@ pub returns-then-is_item : goal.returns-then-is_item
 unfolding new_octets new_flag
 returns-then-is_item c =
     let told : (let a = c.args in c.is_item.result ≡ right_of a.cat (a.item - 1) a.new.now) =
-        let a = c.args in
-        let f = allowed-found a.cat a.field.now a.list a.item c.allowed-found.ensures c.in-Accepted.is in
-        item_asked a.cat a.field.now f.0 c.in-Accepted.is a.list a.item refl f.1 a.new.now c.index-i.ensures c.is_item.ensures in
+    let a = c.args in
+    let f = allowed-found a.cat a.field.now a.list a.item c.allowed-found.ensures c.in-Accepted.is in
+    item_asked a.cat a.field.now f.0 c.in-Accepted.is a.list a.item refl f.1 a.new.now c.index-i.ensures c.is_item.ensures in
     let i = c in let a = c.args in
     let f = allowed-found a.cat a.field.now a.list a.item c.allowed-found.ensures c.in-Accepted.is in
     let p = edit_right a.cat a.field.now f.0 c.in-Accepted.is a.list a.item refl f.1 a.new.now (sym told ∙ c.if-is_item.true) in
@@ -47,9 +46,9 @@ returns-then-is_item c =
 pub returns : goal.returns
 returns c =
     let told : (let a = c.args in c.is_item.result ≡ right_of a.cat (a.item - 1) a.new.now) =
-        let a = c.args in
-        let f = allowed-found a.cat a.field.now a.list a.item c.allowed-found.ensures c.in-Accepted.is in
-        item_asked a.cat a.field.now f.0 c.in-Accepted.is a.list a.item refl f.1 a.new.now c.index-i.ensures c.is_item.ensures in
+    let a = c.args in
+    let f = allowed-found a.cat a.field.now a.list a.item c.allowed-found.ensures c.in-Accepted.is in
+    item_asked a.cat a.field.now f.0 c.in-Accepted.is a.list a.item refl f.1 a.new.now c.index-i.ensures c.is_item.ensures in
     let a = c.args in
     let f = allowed-found a.cat a.field.now a.list a.item c.allowed-found.ensures c.in-Accepted.is in
     refused_left (edit_wrong a.cat a.field.now f.0 c.in-Accepted.is a.list a.item refl f.1 a.new.now (length a.out.now) (sym told ∙ c.if-is_item.false)) a.out.now refl

@@ -3,7 +3,6 @@ use mathlib.Core.Path.{◌≡◌, refl, ap, ◌∙◌, subst}
 use mathlib.Core.List.{List}
 use Prim.Native.Nat.{ℕ, ◌+◌, ◌-◌, ◌≤◌}
 use native.Mathlib.Omega.{arith}
-use borrow.Author.Rules.{rules}
 use lib.ListN.{length, take, drop, replicate, set, length-drop}
 use lib.Seq.{take_all}
 use Rattle.leaves.specs.{octet_is}
@@ -18,24 +17,24 @@ rest_is f to = take_all (length f - to) (drop to f) (omega (arith, length-drop t
 pub returns : goal.returns
 returns c =
     let whole : (let a = c.args in let m = c.paste-3.new.octets in let n = a.from + length a.new.now + (length a.field.now - a.to) in (n ≤ length m) × (n ≡ length (take n m)) × (take n m ≡ splice_of a.items a.field.now a.from a.to a.new.now)) =
-        let a = c.args in
-        spliced_whole a.items a.field.now a.from a.to a.new.now (replicate 255 0) c.requires.0 c.requires.1 c.requires.2 refl c.requires.3
-        (ap (λ (k : ℕ). set (set (replicate 255 0) 0 k) 1 a.items) (c.octet.ensures ∙ octet_is (a.from + length a.new.now + (length a.field.now - a.to)) (omega (arith, c.requires.3)))) refl c.paste.ensures c.paste-2.ensures (rest_is a.field.now a.to) c.paste-3.ensures in
+    let a = c.args in
+    spliced_whole a.items a.field.now a.from a.to a.new.now (replicate 255 0) c.requires.0 c.requires.1 c.requires.2 refl c.requires.3
+    (ap (λ (k : ℕ). set (set (replicate 255 0) 0 k) 1 a.items) (c.octet.ensures ∙ octet_is (a.from + length a.new.now + (length a.field.now - a.to)) (omega (arith, c.requires.3)))) refl c.paste.ensures c.paste-2.ensures (rest_is a.field.now a.to) c.paste-3.ensures in
     let a = c.args in
     subst (λ x. Leaves (with_room (length a.out.now) x) a.out.now c.deliver.result c.deliver.new.out) whole.2 c.deliver.ensures
 
 pub slice_bounds-octets-end : goal.slice_bounds-octets-end
 slice_bounds-octets-end c =
     let whole : (let a = c.args in let m = c.paste-3.new.octets in let n = a.from + length a.new.now + (length a.field.now - a.to) in (n ≤ length m) × (n ≡ length (take n m)) × (take n m ≡ splice_of a.items a.field.now a.from a.to a.new.now)) =
-        let a = c.args in
-        spliced_whole a.items a.field.now a.from a.to a.new.now (replicate 255 0) c.requires.0 c.requires.1 c.requires.2 refl c.requires.3
-        (ap (λ (k : ℕ). set (set (replicate 255 0) 0 k) 1 a.items) (c.octet.ensures ∙ octet_is (a.from + length a.new.now + (length a.field.now - a.to)) (omega (arith, c.requires.3)))) refl c.paste.ensures c.paste-2.ensures (rest_is a.field.now a.to) c.paste-3.ensures in
+    let a = c.args in
+    spliced_whole a.items a.field.now a.from a.to a.new.now (replicate 255 0) c.requires.0 c.requires.1 c.requires.2 refl c.requires.3
+    (ap (λ (k : ℕ). set (set (replicate 255 0) 0 k) 1 a.items) (c.octet.ensures ∙ octet_is (a.from + length a.new.now + (length a.field.now - a.to)) (omega (arith, c.requires.3)))) refl c.paste.ensures c.paste-2.ensures (rest_is a.field.now a.to) c.paste-3.ensures in
     whole.0
 
 pub slice_bounds-deliver-end : goal.slice_bounds-deliver-end
 slice_bounds-deliver-end c =
     let whole : (let a = c.args in let m = c.paste-3.new.octets in let n = a.from + length a.new.now + (length a.field.now - a.to) in (n ≤ length m) × (n ≡ length (take n m)) × (take n m ≡ splice_of a.items a.field.now a.from a.to a.new.now)) =
-        let a = c.args in
-        spliced_whole a.items a.field.now a.from a.to a.new.now (replicate 255 0) c.requires.0 c.requires.1 c.requires.2 refl c.requires.3
-        (ap (λ (k : ℕ). set (set (replicate 255 0) 0 k) 1 a.items) (c.octet.ensures ∙ octet_is (a.from + length a.new.now + (length a.field.now - a.to)) (omega (arith, c.requires.3)))) refl c.paste.ensures c.paste-2.ensures (rest_is a.field.now a.to) c.paste-3.ensures in
+    let a = c.args in
+    spliced_whole a.items a.field.now a.from a.to a.new.now (replicate 255 0) c.requires.0 c.requires.1 c.requires.2 refl c.requires.3
+    (ap (λ (k : ℕ). set (set (replicate 255 0) 0 k) 1 a.items) (c.octet.ensures ∙ octet_is (a.from + length a.new.now + (length a.field.now - a.to)) (omega (arith, c.requires.3)))) refl c.paste.ensures c.paste-2.ensures (rest_is a.field.now a.to) c.paste-3.ensures in
     whole.1

@@ -1,5 +1,4 @@
 -- `exports::beside_word` meets its contract: one law for each case. Assumes nothing.
-use borrow.Author.Rules.{rules}
 use Rattle.interface.proofs.Laws.Packed.{accepted_fits, accepted_word, refused_fits, refused_word}
 use Rattle.exports.proofs.beside_word.Goals as goal
 

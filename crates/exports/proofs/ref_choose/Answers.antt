@@ -1,7 +1,6 @@
 -- `exports::ref_choose` meets its contract. Assumes nothing.
 use mathlib.Core.Path.{sym, ap, ◌∙◌, subst}
 use native.Mathlib.Omega.{arith}
-use borrow.Author.Rules.{rules}
 use Rattle.layout.specs.declared.Choice.{Choice}
 use Rattle.codec.proofs.Laws.Codec.{octets_all}
 use Rattle.interface.specs.Packed.{side_word, choice_word}

@@ -1,7 +1,6 @@
 -- `exports::ref_read` meets its contract: the field into the array, and the answer as a word. Assumes nothing.
 use mathlib.Core.Path.{sym, subst}
 use native.Mathlib.Omega.{arith}
-use borrow.Author.Rules.{rules}
 use lib.ListN.{length}
 use Rattle.codec.proofs.Laws.Codec.{octets_all}
 use Rattle.scope.specs.Reading.{read_of}

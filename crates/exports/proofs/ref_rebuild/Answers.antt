@@ -1,7 +1,6 @@
 -- `exports::ref_rebuild` meets its contract. Assumes nothing.
 use mathlib.Core.Path.{sym, ap₂, ◌∙◌, subst}
 use native.Mathlib.Omega.{arith}
-use borrow.Author.Rules.{rules}
 use lib.ListN.{length}
 use Rattle.guess.proofs.Laws.Rebuilt.{rebuilt_few}
 use Rattle.interface.specs.Packed.{beside_word, rebuilt_word}

@@ -1,7 +1,6 @@
 -- `exports::ref_replace` meets its contract. Assumes nothing.
 use mathlib.Core.Path.{sym, ap, ◌∙◌, subst}
 use native.Mathlib.Omega.{arith}
-use borrow.Author.Rules.{rules}
 use lib.ListN.{length}
 use Rattle.codec.specs.Change.{put}
 use Rattle.codec.proofs.Laws.Change.{new_octets}

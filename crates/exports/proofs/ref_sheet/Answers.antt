@@ -1,7 +1,6 @@
 -- `exports::ref_sheet` meets its contract. Assumes nothing.
 use mathlib.Core.Path.{sym, ap, ◌∙◌, subst}
 use native.Mathlib.Omega.{arith}
-use borrow.Author.Rules.{rules}
 use lib.ListN.{length}
 use Rattle.codec.proofs.Laws.Codec.{octets_all}
 use Rattle.interface.specs.Packed.{answer_word}

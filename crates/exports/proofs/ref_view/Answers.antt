@@ -1,7 +1,6 @@
 -- `exports::ref_view` meets its contract. Assumes nothing.
 use mathlib.Core.Path.{sym, ap, ◌∙◌, subst}
 use native.Mathlib.Omega.{arith}
-use borrow.Author.Rules.{rules}
 use Rattle.codec.proofs.Laws.Codec.{octets_all}
 use Rattle.interface.specs.Packed.{view_word}
 use Rattle.interface.proofs.Laws.Fits.{FitView, view_fits}

@@ -1,6 +1,5 @@
 -- `exports::ref_write` meets its contract. Assumes nothing.
 use mathlib.Core.Path.{sym, ap, ◌∙◌, subst}
-use borrow.Author.Rules.{rules}
 use lib.ListN.{length}
 use Rattle.interface.specs.Packed.{answer_word}
 use Rattle.interface.proofs.Laws.Fits.{FitAnswer, write_fits}

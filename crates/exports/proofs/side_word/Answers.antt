@@ -1,5 +1,4 @@
 -- `exports::side_word` meets its contract: one law for each case. Assumes nothing.
-use borrow.Author.Rules.{rules}
 use Rattle.interface.proofs.Laws.Packed.{shown_fits, shown_word, hidden_fits, hidden_word}
 use Rattle.exports.proofs.side_word.Goals as goal
 

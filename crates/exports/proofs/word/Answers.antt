@@ -1,6 +1,5 @@
 -- `exports::word` meets its contract. Assumes nothing.
 use mathlib.Core.Path.{refl}
-use borrow.Author.Rules.{rules}
 use Rattle.interface.specs.Packed.{word_of}
 use Rattle.exports.proofs.word.Goals as goal
 

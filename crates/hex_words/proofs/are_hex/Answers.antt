@@ -1,9 +1,6 @@
 -- `hex::are_hex` meets its contract: what is left of the word is of hex digits exactly if all of it is. Assumes nothing.
-use mathlib.Core.Path.{◌≡◌, refl, sym, ◌∙◌}
-use Prim.Native.Nat.{◌-◌}
+use mathlib.Core.Path.{refl, sym, ◌∙◌}
 use native.Mathlib.Omega.{arith}
-use lib.ListN.{length, drop}
-use Rattle.hex_words.specs.Octets.{are_hex}
 use Rattle.hex_words.specs.Laws.Octets.{hex_other, hex_more, hex_end}
 use Rattle.hex_words.proofs.are_hex.Goals as goal
 

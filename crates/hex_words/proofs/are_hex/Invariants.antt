@@ -1,9 +1,7 @@
-use mathlib.Core.Path.{◌≡◌, refl, sym, ◌∙◌}
+use mathlib.Core.Path.{◌≡◌}
 use Prim.Native.Nat.{◌-◌}
-use native.Mathlib.Omega.{arith}
 use lib.ListN.{length, drop}
 use Rattle.hex_words.specs.Octets.{are_hex}
-use Rattle.hex_words.specs.Laws.Octets.{hex_other, hex_more, hex_end}
 use Rattle.hex_words.proofs.are_hex.Given as goal
 
 abbrev pub invariant-loop-i : goal.invariant-loop-i

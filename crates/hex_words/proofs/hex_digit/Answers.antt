@@ -1,6 +1,5 @@
 -- `hex::hex_digit` meets its contract: one law at each way out. Assumes nothing.
 use native.Mathlib.Omega.{arith}
-use borrow.Author.Rules.{rules}
 use Rattle.hex_words.specs.Laws.Octets.{hex_number, hex_capital, hex_small, hex_before, hex_second, hex_third, hex_behind}
 use Rattle.hex_words.proofs.hex_digit.Goals as goal
 

@@ -1,7 +1,6 @@
 -- `hex::is_octets` meets its contract: one law at each way out. Assumes nothing.
 use mathlib.Core.Path.{◌∙◌}
 use native.Mathlib.Omega.{arith}
-use borrow.Author.Rules.{rules}
 use Rattle.hex_words.specs.Laws.Octets.{octets_sign, octets_empty, octets_long, octets_odd, octets_even}
 use Rattle.hex_words.proofs.is_octets.Goals as goal
 

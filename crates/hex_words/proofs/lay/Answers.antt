@@ -1,8 +1,8 @@
 -- `hex::lay` meets its contract: from each place that the loop reaches the array comes to hold the same. Assumes nothing.
-use mathlib.Core.Path.{◌≡◌, refl, sym, ap, ◌∙◌}
-use Prim.Native.Nat.{◌+◌, ◌-◌, ◌*◌, ◌/◌}
+use mathlib.Core.Path.{refl, sym, ap, ◌∙◌}
+use Prim.Native.Nat.{◌+◌, ◌*◌}
 use native.Mathlib.Omega.{arith}
-use lib.ListN.{length, drop}
+use lib.ListN.{drop}
 use lib.Seq.{sets}
 use Rattle.hex_words.specs.Octets.{octets_of}
 use Rattle.hex_words.specs.Laws.Octets.{lay_end, lay_more}

@@ -1,10 +1,8 @@
-use mathlib.Core.Path.{◌≡◌, refl, sym, ap, ◌∙◌}
-use Prim.Native.Nat.{◌+◌, ◌-◌, ◌*◌, ◌/◌}
-use native.Mathlib.Omega.{arith}
+use mathlib.Core.Path.{◌≡◌}
+use Prim.Native.Nat.{◌-◌, ◌*◌, ◌/◌}
 use lib.ListN.{length, drop}
 use lib.Seq.{sets}
 use Rattle.hex_words.specs.Octets.{octets_of}
-use Rattle.hex_words.specs.Laws.Octets.{lay_end, lay_more}
 use Rattle.hex_words.proofs.lay.Given as goal
 
 abbrev pub invariant-loop-i : goal.invariant-loop-i

@@ -1,5 +1,4 @@
 -- `hex::octet` meets its contract. Assumes nothing.
-use borrow.Author.Rules.{rules}
 use Rattle.hex_words.specs.Octets.{octet_of}
 use Rattle.hex_words.proofs.octet.Goals as goal
 

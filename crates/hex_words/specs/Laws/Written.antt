@@ -1,6 +1,6 @@
 -- What is taken is what was written: the octets of a word are those of its pairs of hex digits, in capitals and in small letters.
 use Rattle.std.specs.Prelude.{◌≡◌, refl, Bool, true, false, ◌&&◌, List, [], ◌∷◌, ℕ, suc, ◌+◌, ◌-◌, ◌*◌, ◌/◌, ◌%◌, ◌≤◌, ◌<◌, T, ltb, length}
-use Rattle.std.proofs.Common.{sym, ap, ap₂, ◌∙◌, arith, lt-ltb, ltb-true, ltb-false, ltb→lt}
+use Rattle.std.proofs.Common.{sym, ap₂, ◌∙◌, arith, lt-ltb, ltb-true, ltb-false, ltb→lt}
 use Rattle.std.proofs.Math.Pow.{are_bytes}
 use Rattle.codec.specs.Pick.{pick}
 use Rattle.codec.proofs.Laws.Tests.{and_l, and_r}

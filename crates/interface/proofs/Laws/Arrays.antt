@@ -1,5 +1,5 @@
 -- The array of a record: what the code puts together is it, and the record of an array is got back from it.
-use Rattle.std.specs.Prelude.{◌≡◌, Bool, true, false, ℕ, ◌+◌, ◌-◌, ◌≤◌, eqb, ℤ, pos, length, get_or, take, drop, set}
+use Rattle.std.specs.Prelude.{◌≡◌, Bool, true, false, ℕ, ◌-◌, ◌≤◌, eqb, ℤ, pos, length, get_or, take, drop, set}
 use Rattle.std.proofs.Math.Path.{refl, ap, subst}
 use Rattle.std.proofs.Common.{sym, ◌∙◌, arith, eq-eqb, ne_eqb, length-set, length-append, length-drop, take-append-drop, drop_of_length-le, take_all, drop_at, length-take-le}
 use mathlib.Core.List.{List, [], ◌∷◌, ◌++◌, map, append-nil}

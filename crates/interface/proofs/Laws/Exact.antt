@@ -1,5 +1,5 @@
 -- What crosses is exact: a record is got back from its array, an array that is written is the array of a record, and every word tells its answer.
-use Rattle.std.specs.Prelude.{◌≡◌, Bool, List, [], ◌∷◌, ◌++◌, map, ℕ, ◌+◌, ◌<◌, ltb, eqb, ℤ, negsuc, length, get_or, take, drop}
+use Rattle.std.specs.Prelude.{◌≡◌, Bool, List, [], ◌∷◌, ◌++◌, map, ℕ, ◌<◌, ltb, eqb, ℤ, negsuc, length, get_or, take, drop}
 use Rattle.std.proofs.Math.Path.{refl, subst}
 use Rattle.std.proofs.Common.{sym, ap, ap₂, ◌∙◌, arith, lt-ltb, eq-eqb, eqb-true, ltb→lt, take-append-drop, take_at}
 use Rattle.std.proofs.Math.Bool.{true, false}

@@ -1,5 +1,5 @@
 -- `layout::number_at` meets its contract. Assumes nothing.
-use borrow.Author.Rules.{rules, sfits_of}
+use borrow.Author.Rules.{sfits_of}
 use mir.Facts.{to_z-of_z}
 use Rattle.layout.specs.Laws.Slots.{slot_there, slot-past}
 use Rattle.layout.proofs.number_at.Goals as goal

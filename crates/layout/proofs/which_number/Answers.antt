@@ -1,6 +1,5 @@
 -- `layout::which_number` meets its contract. Assumes nothing.
 use mathlib.Core.Path.{refl}
-use borrow.Author.Rules.{rules}
 use Rattle.layout.specs.Answer.{which_number}
 use Rattle.layout.proofs.which_number.Goals as goal
 

@@ -1,6 +1,5 @@
 -- `lengths::line_in` meets its contract, by the tables' rules. Assumes nothing.
 use mathlib.Core.Path.{ap₂}
-use borrow.Author.Rules.{rules}
 use Rattle.lengths.specs.Lines.{named}
 use Rattle.lengths.specs.Laws.Lines.{lengths_at, pieces_at}
 use Rattle.lengths.proofs.line_in.Goals as goal

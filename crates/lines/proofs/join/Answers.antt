@@ -1,9 +1,7 @@
 -- `lines::join` meets its contract: from each octet that the loop reaches the answer is the same. Assumes nothing.
-use mathlib.Core.Path.{◌≡◌, refl, sym, ◌∙◌}
-use Prim.Native.Nat.{◌-◌}
+use mathlib.Core.Path.{sym, ◌∙◌}
 use native.Mathlib.Omega.{arith}
-use lib.ListN.{length, drop}
-use Rattle.lines.specs.Joining.{join_of, line_after}
+use lib.ListN.{length}
 use Rattle.lines.specs.Laws.Joining.{join_end, join_feed, join_more}
 use Rattle.lines.proofs.join.Goals as goal
 

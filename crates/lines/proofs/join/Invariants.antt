@@ -1,9 +1,7 @@
-use mathlib.Core.Path.{◌≡◌, refl, sym, ◌∙◌}
+use mathlib.Core.Path.{◌≡◌}
 use Prim.Native.Nat.{◌-◌}
-use native.Mathlib.Omega.{arith}
 use lib.ListN.{length, drop}
 use Rattle.lines.specs.Joining.{join_of, line_after}
-use Rattle.lines.specs.Laws.Joining.{join_end, join_feed, join_more}
 use Rattle.lines.proofs.join.Given as goal
 
 abbrev pub invariant-loop-at : goal.invariant-loop-at

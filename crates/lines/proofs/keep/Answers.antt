@@ -1,5 +1,4 @@
 -- `lines::keep` meets its contract: one law at each way out. Assumes nothing.
-use borrow.Author.Rules.{rules}
 use Rattle.lines.specs.Laws.Joining.{keep_there, keep_full}
 use Rattle.lines.proofs.keep.Goals as goal
 

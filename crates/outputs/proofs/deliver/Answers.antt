@@ -1,5 +1,5 @@
 -- `outputs::deliver` meets its contract. Assumes nothing.
-use Rattle.std.proofs.Common.{◌≡◌, ◌++◌, length, take, drop, arith, ap, sym, ◌∙◌, take_all, refl}
+use Rattle.std.proofs.Common.{◌++◌, length, drop, arith, ap, sym, ◌∙◌, take_all, refl}
 use Rattle.scope.proofs.Laws.Outputs.{delivered, no_room}
 use Rattle.outputs.proofs.deliver.Goals as goal
 

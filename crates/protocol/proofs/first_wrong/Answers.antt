@@ -1,12 +1,8 @@
 -- `protocol::first_wrong` meets its contract: from each word that the loop reaches the answer is the same. Assumes nothing.
 use mathlib.Core.Path.{◌≡◌, refl, sym, ap, ◌∙◌}
-use Prim.Native.Nat.{◌+◌, ◌-◌, ◌≤◌}
+use Prim.Native.Nat.{◌+◌}
 use native.Mathlib.Omega.{arith}
-use borrow.Author.Tests.{not-true, not-false}
-use lib.ListN.{length, get_or, drop}
-use Rattle.words.specs.Lines.{word_of}
-use Rattle.protocol.specs.Line.{words_of, words_at}
-use Rattle.protocol.specs.Forms.{fits, first_wrong}
+use Rattle.protocol.specs.Forms.{fits}
 use Rattle.protocol.specs.Laws.Forms.{wrong_missing, wrong_here, wrong_more, wrong_none, wrong_over, wrong_start}
 use Rattle.protocol.proofs.first_wrong.Goals as goal
 

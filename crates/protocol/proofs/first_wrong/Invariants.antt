@@ -1,12 +1,8 @@
-use mathlib.Core.Path.{◌≡◌, refl, sym, ap, ◌∙◌}
+use mathlib.Core.Path.{◌≡◌}
 use Prim.Native.Nat.{◌+◌, ◌-◌, ◌≤◌}
-use native.Mathlib.Omega.{arith}
-use borrow.Author.Tests.{not-true, not-false}
-use lib.ListN.{length, get_or, drop}
-use Rattle.words.specs.Lines.{word_of}
+use lib.ListN.{length, drop}
 use Rattle.protocol.specs.Line.{words_of, words_at}
-use Rattle.protocol.specs.Forms.{fits, first_wrong}
-use Rattle.protocol.specs.Laws.Forms.{wrong_missing, wrong_here, wrong_more, wrong_none, wrong_over, wrong_start}
+use Rattle.protocol.specs.Forms.{first_wrong}
 use Rattle.protocol.proofs.first_wrong.Given as goal
 
 abbrev pub invariant-loop-k : goal.invariant-loop-k

@@ -1,13 +1,12 @@
 -- `protocol::judge` meets its contract: from each row that the loop reaches the judgement is the same. Assumes nothing.
-use mathlib.Core.Path.{◌≡◌, refl, sym, ap, ap₂, ◌∙◌}
-use Prim.Native.Nat.{◌+◌, ◌-◌, ◌≤◌, ◌<◌}
+use mathlib.Core.Path.{◌≡◌, refl, sym, ap₂, ◌∙◌}
+use Prim.Native.Nat.{◌<◌}
 use native.Mathlib.Omega.{arith}
-use lib.ListN.{length, drop}
+use lib.ListN.{drop}
 use Rattle.words.specs.Lines.{word_of}
-use Rattle.protocol.specs.Line.{same, words_of, nth, words_at}
-use Rattle.protocol.specs.Forms.{judged_by}
+use Rattle.protocol.specs.Line.{same, words_of, nth}
 use Rattle.protocol.specs.Laws.Line.{same_told, place_next, word_short, place_later}
-use Rattle.protocol.specs.Laws.Forms.{rows_of, judged_start, judged_here, judged_more, judged_end, name_of}
+use Rattle.protocol.specs.Laws.Forms.{judged_start, judged_here, judged_more, judged_end, name_of}
 use Rattle.protocol.proofs.judge.Goals as goal
 
 pub loop-at-init : goal.loop-at-init
@@ -34,7 +33,7 @@ judged_as-requires c = (omega arith, omega (arith, word_short c.args.forms.now c
 pub returns-then-same : goal.returns-then-same
 returns-then-same c =
     let named : c.same.result ≡ same (nth (words_of c.args.line.now) 0) (word_of (drop c.loop-at.at c.args.forms.now)) =
-        same_told _ _ c.same.ensures ∙ ap₂ same (c.word_at.ensures ∙ name_of _) c.word_at-in-loop-at.ensures in
+    same_told _ _ c.same.ensures ∙ ap₂ same (c.word_at.ensures ∙ name_of _) c.word_at-in-loop-at.ensures in
     let a = c.args in
     let ws = words_of a.line.now in
     sym
@@ -51,17 +50,17 @@ overflow_add-q c = omega arith
 pub loop-at-smaller : goal.loop-at-smaller
 loop-at-smaller c =
     let further : c.loop-at.at < c.next_place-at.result =
-        let f = c.args.forms.now in
-        omega (arith, c.next_place-kinds.ensures, place_next f c.loop-at.at (omega arith), c.next_place-at.ensures, place_later f c.next_place-kinds.result) in
+    let f = c.args.forms.now in
+    omega (arith, c.next_place-kinds.ensures, place_next f c.loop-at.at (omega arith), c.next_place-at.ensures, place_later f c.next_place-kinds.result) in
     omega (arith, further)
 
 pub loop-at-preserved : goal.loop-at-preserved
 loop-at-preserved c =
     let named : c.same.result ≡ same (nth (words_of c.args.line.now) 0) (word_of (drop c.loop-at.at c.args.forms.now)) =
-        same_told _ _ c.same.ensures ∙ ap₂ same (c.word_at.ensures ∙ name_of _) c.word_at-in-loop-at.ensures in
+    same_told _ _ c.same.ensures ∙ ap₂ same (c.word_at.ensures ∙ name_of _) c.word_at-in-loop-at.ensures in
     let further : c.loop-at.at < c.next_place-at.result =
-        let f = c.args.forms.now in
-        omega (arith, c.next_place-kinds.ensures, place_next f c.loop-at.at (omega arith), c.next_place-at.ensures, place_later f c.next_place-kinds.result) in
+    let f = c.args.forms.now in
+    omega (arith, c.next_place-kinds.ensures, place_next f c.loop-at.at (omega arith), c.next_place-at.ensures, place_later f c.next_place-kinds.result) in
     let a = c.args in
     let ws = words_of a.line.now in (
       omega (arith, further),

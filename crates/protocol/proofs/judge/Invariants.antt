@@ -1,12 +1,9 @@
-use mathlib.Core.Path.{◌≡◌, refl, sym, ap, ap₂, ◌∙◌}
-use Prim.Native.Nat.{◌+◌, ◌-◌, ◌≤◌, ◌<◌}
-use native.Mathlib.Omega.{arith}
-use lib.ListN.{length, drop}
-use Rattle.words.specs.Lines.{word_of}
-use Rattle.protocol.specs.Line.{same, words_of, nth, words_at}
+use mathlib.Core.Path.{◌≡◌}
+use Prim.Native.Nat.{◌+◌, ◌-◌, ◌≤◌}
+use lib.ListN.{length}
+use Rattle.protocol.specs.Line.{words_of, words_at}
 use Rattle.protocol.specs.Forms.{judged_by}
-use Rattle.protocol.specs.Laws.Line.{same_told, place_next, word_short, place_later}
-use Rattle.protocol.specs.Laws.Forms.{rows_of, judged_start, judged_here, judged_more, judged_end, name_of}
+use Rattle.protocol.specs.Laws.Forms.{rows_of}
 use Rattle.protocol.proofs.judge.Given as goal
 
 abbrev pub invariant-loop-at : goal.invariant-loop-at

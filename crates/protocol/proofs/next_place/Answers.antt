@@ -17,18 +17,18 @@ word_at-word-requires c = search rules
 pub overflow_add-result : goal.overflow_add-result
 overflow_add-result c =
     let counted : length c.word_at-word.result.now ≡ word_length (drop c.args.at c.args.line.now) =
-        let a = c.args in ap length c.word_at-word.ensures ∙ word_length_lem (drop a.at a.line.now) in
+    let a = c.args in ap length c.word_at-word.ensures ∙ word_length_lem (drop a.at a.line.now) in
     omega (arith, counted, place_within c.args.line.now c.args.at (omega arith))
 
 pub overflow_add-result-2 : goal.overflow_add-result-2
 overflow_add-result-2 c =
     let counted : length c.word_at-word.result.now ≡ word_length (drop c.args.at c.args.line.now) =
-        let a = c.args in ap length c.word_at-word.ensures ∙ word_length_lem (drop a.at a.line.now) in
+    let a = c.args in ap length c.word_at-word.ensures ∙ word_length_lem (drop a.at a.line.now) in
     omega (arith, counted, place_within c.args.line.now c.args.at (omega arith))
 
 pub returns : goal.returns
 returns c =
     let counted : length c.word_at-word.result.now ≡ word_length (drop c.args.at c.args.line.now) =
-        let a = c.args in ap length c.word_at-word.ensures ∙ word_length_lem (drop a.at a.line.now) in
+    let a = c.args in ap length c.word_at-word.ensures ∙ word_length_lem (drop a.at a.line.now) in
     let a = c.args in
     sym (place_next a.line.now a.at (omega arith) ∙ ap (λ n. a.at + n + 1) (sym counted))

@@ -1,12 +1,11 @@
 -- `protocol::numbers` meets its contract: the words that are left go where they went from the start. Assumes nothing.
-use mathlib.Core.Path.{◌≡◌, refl, sym, ◌∙◌}
-use Prim.Native.Nat.{◌-◌, ◌≤◌}
+use mathlib.Core.Path.{refl, sym, ◌∙◌}
 use native.Mathlib.Omega.{arith}
 use borrow.Author.Rules.{sfits_of}
 use mir.Facts.{to_z-of_z}
 use Rattle.words.specs.Numbers.{whole_in}
 use Rattle.papers.specs.Papers.{SLOTS}
-use Rattle.protocol.specs.Laws.Record.{filled, filled_more, filled_end}
+use Rattle.protocol.specs.Laws.Record.{filled_more, filled_end}
 use Rattle.protocol.proofs.numbers.Goals as goal
 
 pub loop-i-init : goal.loop-i-init

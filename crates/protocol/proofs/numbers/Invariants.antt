@@ -1,11 +1,8 @@
-use mathlib.Core.Path.{◌≡◌, refl, sym, ◌∙◌}
+use mathlib.Core.Path.{◌≡◌}
 use Prim.Native.Nat.{◌-◌, ◌≤◌}
-use native.Mathlib.Omega.{arith}
-use borrow.Author.Rules.{sfits_of}
-use mir.Facts.{to_z-of_z}
 use Rattle.words.specs.Numbers.{whole_in}
 use Rattle.papers.specs.Papers.{SLOTS}
-use Rattle.protocol.specs.Laws.Record.{filled, filled_more, filled_end}
+use Rattle.protocol.specs.Laws.Record.{filled}
 use Rattle.protocol.proofs.numbers.Given as goal
 
 abbrev pub invariant-loop-i : goal.invariant-loop-i

@@ -1,11 +1,8 @@
 -- `protocol::parts` meets its contract: the words that are left go where they went from the start. Assumes nothing.
-use mathlib.Core.Path.{◌≡◌, refl, sym, ◌∙◌}
-use Prim.Native.Nat.{◌-◌, ◌≤◌}
+use mathlib.Core.Path.{refl, sym, ◌∙◌}
 use native.Mathlib.Omega.{arith}
-use lib.ListN.{drop}
-use Rattle.protocol.specs.Line.{words_at}
 use Rattle.words.specs.Numbers.{value_in}
-use Rattle.protocol.specs.Laws.Record.{filled, filled_more, filled_end, passed_more, passed_end}
+use Rattle.protocol.specs.Laws.Record.{filled_more, filled_end, passed_more, passed_end}
 use Rattle.protocol.proofs.parts.Goals as goal
 
 pub loop-i-init : goal.loop-i-init

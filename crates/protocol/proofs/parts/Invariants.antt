@@ -1,10 +1,9 @@
-use mathlib.Core.Path.{◌≡◌, refl, sym, ◌∙◌}
+use mathlib.Core.Path.{◌≡◌}
 use Prim.Native.Nat.{◌-◌, ◌≤◌}
-use native.Mathlib.Omega.{arith}
 use lib.ListN.{drop}
 use Rattle.protocol.specs.Line.{words_at}
 use Rattle.words.specs.Numbers.{value_in}
-use Rattle.protocol.specs.Laws.Record.{filled, filled_more, filled_end, passed_more, passed_end}
+use Rattle.protocol.specs.Laws.Record.{filled}
 use Rattle.protocol.proofs.parts.Given as goal
 
 abbrev pub invariant-loop-i : goal.invariant-loop-i

@@ -1,7 +1,6 @@
 -- `reader::closed` meets its contract. Assumes nothing.
 use mathlib.Core.Path.{refl, ◌∙◌}
 use native.Mathlib.Omega.{arith}
-use borrow.Author.Rules.{rules}
 use borrow.Author.Tests.{le-leb, lt-leb, eq-eqb, ne_eqb}
 use Rattle.reader.specs.Places.{closed_of}
 use Rattle.reader.proofs.closed.Goals as goal

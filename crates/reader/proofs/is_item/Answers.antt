@@ -2,7 +2,6 @@
 use mathlib.Core.Path.{◌≡◌, sym, ap, ◌∙◌, subst}
 use Prim.Native.Nat.{◌+◌, ◌≤◌, ◌<◌}
 use native.Mathlib.Omega.{arith}
-use borrow.Author.Rules.{rules}
 use mir.Facts.{Fits-of_lt}
 use Rattle.papers.proofs.Laws.Papers.{few_items}
 use Rattle.spots.specs.Spots.{spot_at, spot_of}

@@ -1,7 +1,6 @@
 -- `reader::items` meets its contract: one law at each way out. Assumes nothing.
 use mathlib.Core.Path.{sym, ap, ◌∙◌}
 use native.Mathlib.Omega.{arith}
-use borrow.Author.Rules.{rules}
 use lib.ListN.{length}
 use Rattle.codec.specs.Field.{flags}
 use Rattle.papers.specs.Papers.{items_of}

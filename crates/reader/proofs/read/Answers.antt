@@ -1,6 +1,5 @@
 -- `reader::read` meets its contract: one law at each way out. Assumes nothing.
 use native.Mathlib.Omega.{arith}
-use borrow.Author.Rules.{rules}
 use Rattle.reader.specs.Laws.Records.{two_there, read_refused, read_accepted}
 use Rattle.reader.proofs.read.Goals as goal
 

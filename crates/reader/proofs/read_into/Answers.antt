@@ -1,6 +1,5 @@
 -- `reader::read_into` meets its contract: one law at each way out. Assumes nothing.
 use native.Mathlib.Omega.{arith}
-use borrow.Author.Rules.{rules}
 use Rattle.codec.proofs.Laws.Codec.{octets_all}
 use Rattle.reader.specs.Laws.Records.{Accepts, accepted_by, into_refused, into_none, room, row-asks, into_all}
 use Rattle.reader.proofs.read_into.Goals as goal

@@ -3,7 +3,7 @@ use Rattle.std.specs.Prelude.{◌≡◌, eqb, ℤ, length, drop}
 use Rattle.std.proofs.Math.Path.{refl, ap}
 use Rattle.std.proofs.Common.{◌∙◌, subst, arith, ne_eqb}
 use mathlib.Core.List.{List, ◌∷◌, ◌++◌}
-use Prim.Native.Nat.{ℕ, zero, suc, ◌+◌, ◌-◌, ◌^◌, ◌<◌}
+use Prim.Native.Nat.{ℕ, zero, suc, ◌+◌, ◌^◌, ◌<◌}
 use Rattle.codec.specs.Codec.{Res, got, bad, map_res, check, shift, opt}
 use Rattle.codec.specs.Line.{Held, line}
 use Rattle.codec.specs.Item.{slots_of, nothing, beside, chain}

@@ -44,15 +44,15 @@ bounded-len-requires c = search rules
 pub slice_bounds-field-end : goal.slice_bounds-field-end
 slice_bounds-field-end c =
     let written : (let t = c.args.text.now in (c.octets_in-n.result ≡ length (field_in t)) × (take c.octets_in-n.result c.write.new.out ≡ field_in t) × (c.octets_in-n.result ≤ length c.write.new.out)) =
-        let t = c.args.text.now in
-        octets_written t c.record-kept.ensures (length-replicate {A = ℕ} LONGEST 0) c.write.ensures c.octets_in-n.ensures in
+    let t = c.args.text.now in
+    octets_written t c.record-kept.ensures (length-replicate {A = ℕ} LONGEST 0) c.write.ensures c.octets_in-n.ensures in
     written.2
 
 pub slice_bounds-wrong-end : goal.slice_bounds-wrong-end
 slice_bounds-wrong-end c =
     let written : (let t = c.args.text.now in (c.octets_in-n.result ≡ length (field_in t)) × (take c.octets_in-n.result c.write.new.out ≡ field_in t) × (c.octets_in-n.result ≤ length c.write.new.out)) =
-        let t = c.args.text.now in
-        octets_written t c.record-kept.ensures (length-replicate {A = ℕ} LONGEST 0) c.write.ensures c.octets_in-n.ensures in
+    let t = c.args.text.now in
+    octets_written t c.record-kept.ensures (length-replicate {A = ℕ} LONGEST 0) c.write.ensures c.octets_in-n.ensures in
     omega (arith, written.2, length-take c.octets_in-n.result c.write.new.out)
 
 pub wrong-line-requires : goal.wrong-line-requires
@@ -65,17 +65,17 @@ pub returns-then-line-ne0 : goal.returns-then-line-ne0
 unfolding length_in wrong_in
 returns-then-line-ne0 c =
     let written : (let t = c.args.text.now in (c.octets_in-n.result ≡ length (field_in t)) × (take c.octets_in-n.result c.write.new.out ≡ field_in t) × (c.octets_in-n.result ≤ length c.write.new.out)) =
-        let t = c.args.text.now in
-        octets_written t c.record-kept.ensures (length-replicate {A = ℕ} LONGEST 0) c.write.ensures c.octets_in-n.ensures in
+    let t = c.args.text.now in
+    octets_written t c.record-kept.ensures (length-replicate {A = ℕ} LONGEST 0) c.write.ensures c.octets_in-n.ensures in
     let category_is : (let t = c.args.text.now in c.record-kept.result.cat ≡ category_in t) =
-        let t = c.args.text.now in ap (λ (f : Record). f.cat) c.record-kept.ensures ∙ guess_category t in
+    let t = c.args.text.now in ap (λ (f : Record). f.cat) c.record-kept.ensures ∙ guess_category t in
     let len_is : c.bounded-len.result ≡ length_in c.args.text.now =
-        c.bounded-len.ensures ∙ ap (bounded_in 2 255) c.next.ensures in
+    c.bounded-len.ensures ∙ ap (bounded_in 2 255) c.next.ensures in
     let line_is : c.wrong-line.result ≡ wrong_in c.args.text.now =
-        let t = c.args.text.now in
-        c.wrong-line.ensures (length (field_in t)) (guess_of t)
-        (ap₂ (λ x s. sheet_of (x ∷ s)) category_is written.1 ∙ octets_sheet t ∙ ap (λ x. sheet_with x (length (field_in t)) (guess_of t)) (sym category_is))
-        ∙ ap₂ (λ x m. first_wrong 1 (sheet_with x m (guess_of t)) t) category_is len_is in
+    let t = c.args.text.now in
+    c.wrong-line.ensures (length (field_in t)) (guess_of t)
+    (ap₂ (λ x s. sheet_of (x ∷ s)) category_is written.1 ∙ octets_sheet t ∙ ap (λ x. sheet_with x (length (field_in t)) (guess_of t)) (sym category_is))
+    ∙ ap₂ (λ x m. first_wrong 1 (sheet_with x m (guess_of t)) t) category_is len_is in
     let a = c.args in
     subst (λ r. Rebuilds a.text.now a.out.now r a.out.now) (sym c.refused-then-line-ne0.ensures) (rebuild_line a.text.now a.out.now c.if-text-gt32768.false line_is c.if-line-ne0.true)
 
@@ -86,17 +86,17 @@ pub returns-then-len-n : goal.returns-then-len-n
 unfolding length_in wrong_in
 returns-then-len-n c =
     let written : (let t = c.args.text.now in (c.octets_in-n.result ≡ length (field_in t)) × (take c.octets_in-n.result c.write.new.out ≡ field_in t) × (c.octets_in-n.result ≤ length c.write.new.out)) =
-        let t = c.args.text.now in
-        octets_written t c.record-kept.ensures (length-replicate {A = ℕ} LONGEST 0) c.write.ensures c.octets_in-n.ensures in
+    let t = c.args.text.now in
+    octets_written t c.record-kept.ensures (length-replicate {A = ℕ} LONGEST 0) c.write.ensures c.octets_in-n.ensures in
     let len_is : c.bounded-len.result ≡ length_in c.args.text.now =
-        c.bounded-len.ensures ∙ ap (bounded_in 2 255) c.next.ensures in
+    c.bounded-len.ensures ∙ ap (bounded_in 2 255) c.next.ensures in
     let category_is : (let t = c.args.text.now in c.record-kept.result.cat ≡ category_in t) =
-        let t = c.args.text.now in ap (λ (f : Record). f.cat) c.record-kept.ensures ∙ guess_category t in
+    let t = c.args.text.now in ap (λ (f : Record). f.cat) c.record-kept.ensures ∙ guess_category t in
     let line_is : c.wrong-line.result ≡ wrong_in c.args.text.now =
-        let t = c.args.text.now in
-        c.wrong-line.ensures (length (field_in t)) (guess_of t)
-        (ap₂ (λ x s. sheet_of (x ∷ s)) category_is written.1 ∙ octets_sheet t ∙ ap (λ x. sheet_with x (length (field_in t)) (guess_of t)) (sym category_is))
-        ∙ ap₂ (λ x m. first_wrong 1 (sheet_with x m (guess_of t)) t) category_is len_is in
+    let t = c.args.text.now in
+    c.wrong-line.ensures (length (field_in t)) (guess_of t)
+    (ap₂ (λ x s. sheet_of (x ∷ s)) category_is written.1 ∙ octets_sheet t ∙ ap (λ x. sheet_with x (length (field_in t)) (guess_of t)) (sym category_is))
+    ∙ ap₂ (λ x m. first_wrong 1 (sheet_with x m (guess_of t)) t) category_is len_is in
     let a = c.args in
     subst (λ r. Rebuilds a.text.now a.out.now r a.out.now) (sym c.refused-then-len-n.ensures)
     (rebuild_length a.text.now a.out.now c.if-text-gt32768.false line_is c.if-line-ne0.false len_is written.0 c.if-len-n.true)
@@ -104,15 +104,15 @@ returns-then-len-n c =
 pub slice_bounds-field-end-2 : goal.slice_bounds-field-end-2
 slice_bounds-field-end-2 c =
     let written : (let t = c.args.text.now in (c.octets_in-n.result ≡ length (field_in t)) × (take c.octets_in-n.result c.write.new.out ≡ field_in t) × (c.octets_in-n.result ≤ length c.write.new.out)) =
-        let t = c.args.text.now in
-        octets_written t c.record-kept.ensures (length-replicate {A = ℕ} LONGEST 0) c.write.ensures c.octets_in-n.ensures in
+    let t = c.args.text.now in
+    octets_written t c.record-kept.ensures (length-replicate {A = ℕ} LONGEST 0) c.write.ensures c.octets_in-n.ensures in
     written.2
 
 pub slice_bounds-deliver-end : goal.slice_bounds-deliver-end
 slice_bounds-deliver-end c =
     let written : (let t = c.args.text.now in (c.octets_in-n.result ≡ length (field_in t)) × (take c.octets_in-n.result c.write.new.out ≡ field_in t) × (c.octets_in-n.result ≤ length c.write.new.out)) =
-        let t = c.args.text.now in
-        octets_written t c.record-kept.ensures (length-replicate {A = ℕ} LONGEST 0) c.write.ensures c.octets_in-n.ensures in
+    let t = c.args.text.now in
+    octets_written t c.record-kept.ensures (length-replicate {A = ℕ} LONGEST 0) c.write.ensures c.octets_in-n.ensures in
     omega (arith, written.2, length-take c.octets_in-n.result c.write.new.out)
 
 pub deliver-requires : goal.deliver-requires
@@ -128,16 +128,16 @@ pub returns : goal.returns
 unfolding length_in wrong_in
 returns c =
     let written : (let t = c.args.text.now in (c.octets_in-n.result ≡ length (field_in t)) × (take c.octets_in-n.result c.write.new.out ≡ field_in t) × (c.octets_in-n.result ≤ length c.write.new.out)) =
-        let t = c.args.text.now in
-        octets_written t c.record-kept.ensures (length-replicate {A = ℕ} LONGEST 0) c.write.ensures c.octets_in-n.ensures in
+    let t = c.args.text.now in
+    octets_written t c.record-kept.ensures (length-replicate {A = ℕ} LONGEST 0) c.write.ensures c.octets_in-n.ensures in
     let category_is : (let t = c.args.text.now in c.record-kept.result.cat ≡ category_in t) =
-        let t = c.args.text.now in ap (λ (f : Record). f.cat) c.record-kept.ensures ∙ guess_category t in
+    let t = c.args.text.now in ap (λ (f : Record). f.cat) c.record-kept.ensures ∙ guess_category t in
     let len_is : c.bounded-len.result ≡ length_in c.args.text.now =
-        c.bounded-len.ensures ∙ ap (bounded_in 2 255) c.next.ensures in
+    c.bounded-len.ensures ∙ ap (bounded_in 2 255) c.next.ensures in
     let line_is : c.wrong-line.result ≡ wrong_in c.args.text.now =
-        let t = c.args.text.now in
-        c.wrong-line.ensures (length (field_in t)) (guess_of t)
-        (ap₂ (λ x s. sheet_of (x ∷ s)) category_is written.1 ∙ octets_sheet t ∙ ap (λ x. sheet_with x (length (field_in t)) (guess_of t)) (sym category_is))
-        ∙ ap₂ (λ x m. first_wrong 1 (sheet_with x m (guess_of t)) t) category_is len_is in
+    let t = c.args.text.now in
+    c.wrong-line.ensures (length (field_in t)) (guess_of t)
+    (ap₂ (λ x s. sheet_of (x ∷ s)) category_is written.1 ∙ octets_sheet t ∙ ap (λ x. sheet_with x (length (field_in t)) (guess_of t)) (sym category_is))
+    ∙ ap₂ (λ x m. first_wrong 1 (sheet_with x m (guess_of t)) t) category_is len_is in
     let a = c.args in
     rebuild_given a.text.now a.out.now c.if-text-gt32768.false line_is c.if-line-ne0.false len_is written.0 c.if-len-n.false category_is written.1 c.deliver.ensures c.given.ensures

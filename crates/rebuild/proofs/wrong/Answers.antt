@@ -33,19 +33,19 @@ pair-third-requires c = search rules
 pub slice_bounds-own-end : goal.slice_bounds-own-end
 slice_bounds-own-end c =
     let input_octets : (Octets (c.args.cat ∷ c.args.field.now)) =
-        let f = c.args.field.now in
-        and_in (ltb c.args.cat 256) _ (lt→ltb c.args.cat 256 (octet_lt c.ranges.cat)) (octets_all f (λ i. omega (arith, c.type_inv.field i))) in
+    let f = c.args.field.now in
+    and_in (ltb c.args.cat 256) _ (lt→ltb c.args.cat 256 (octet_lt c.ranges.cat)) (octets_all f (λ i. omega (arith, c.type_inv.field i))) in
     let stands : (Standing (sheet_of (c.args.cat ∷ c.args.field.now)) c.listed-end.new.buf c.listed-end.result) =
-        sheet_stands (c.args.cat ∷ c.args.field.now) input_octets (length-replicate {A = ℕ} 4_096 0) c.listed-end.ensures in
+    sheet_stands (c.args.cat ∷ c.args.field.now) input_octets (length-replicate {A = ℕ} 4_096 0) c.listed-end.ensures in
     stands.within
 
 pub slice_bounds-skip-end : goal.slice_bounds-skip-end
 slice_bounds-skip-end c =
     let input_octets : (Octets (c.args.cat ∷ c.args.field.now)) =
-        let f = c.args.field.now in
-        and_in (ltb c.args.cat 256) _ (lt→ltb c.args.cat 256 (octet_lt c.ranges.cat)) (octets_all f (λ i. omega (arith, c.type_inv.field i))) in
+    let f = c.args.field.now in
+    and_in (ltb c.args.cat 256) _ (lt→ltb c.args.cat 256 (octet_lt c.ranges.cat)) (octets_all f (λ i. omega (arith, c.type_inv.field i))) in
     let stands : (Standing (sheet_of (c.args.cat ∷ c.args.field.now)) c.listed-end.new.buf c.listed-end.result) =
-        sheet_stands (c.args.cat ∷ c.args.field.now) input_octets (length-replicate {A = ℕ} 4_096 0) c.listed-end.ensures in
+    sheet_stands (c.args.cat ∷ c.args.field.now) input_octets (length-replicate {A = ℕ} 4_096 0) c.listed-end.ensures in
     stands.whole
 
 pub skip-requires : goal.skip-requires
@@ -57,13 +57,13 @@ word-last-requires c = search rules
 pub slice_bounds-buf-end : goal.slice_bounds-buf-end
 slice_bounds-buf-end c =
     let within : c.word-last.result ≤ length c.word-last.new.buf =
-        types_within (types_behind c.pair-second.ensures (types_behind c.pair-third.ensures c.word-last.ensures)) (length-replicate {A = ℕ} 4_096 0) (omega arith) in
+    types_within (types_behind c.pair-second.ensures (types_behind c.pair-third.ensures c.word-last.ensures)) (length-replicate {A = ℕ} 4_096 0) (omega arith) in
     within
 
 pub slice_bounds-first_wrong-end : goal.slice_bounds-first_wrong-end
 slice_bounds-first_wrong-end c =
     let within : c.word-last.result ≤ length c.word-last.new.buf =
-        types_within (types_behind c.pair-second.ensures (types_behind c.pair-third.ensures c.word-last.ensures)) (length-replicate {A = ℕ} 4_096 0) (omega arith) in
+    types_within (types_behind c.pair-second.ensures (types_behind c.pair-third.ensures c.word-last.ensures)) (length-replicate {A = ℕ} 4_096 0) (omega arith) in
     omega (arith, within, length-take c.word-last.result c.word-last.new.buf)
 
 pub first_wrong-requires : goal.first_wrong-requires
@@ -72,9 +72,9 @@ first_wrong-requires c = search rules
 pub returns : goal.returns
 returns c =
     let input_octets : (Octets (c.args.cat ∷ c.args.field.now)) =
-        let f = c.args.field.now in
-        and_in (ltb c.args.cat 256) _ (lt→ltb c.args.cat 256 (octet_lt c.ranges.cat)) (octets_all f (λ i. omega (arith, c.type_inv.field i))) in
+    let f = c.args.field.now in
+    and_in (ltb c.args.cat 256) _ (lt→ltb c.args.cat 256 (octet_lt c.ranges.cat)) (octets_all f (λ i. omega (arith, c.type_inv.field i))) in
     let stands : (Standing (sheet_of (c.args.cat ∷ c.args.field.now)) c.listed-end.new.buf c.listed-end.result) =
-        sheet_stands (c.args.cat ∷ c.args.field.now) input_octets (length-replicate {A = ℕ} 4_096 0) c.listed-end.ensures in
+    sheet_stands (c.args.cat ∷ c.args.field.now) input_octets (length-replicate {A = ℕ} 4_096 0) c.listed-end.ensures in
     let a = c.args in
     wrong_is a.cat a.len a.field.now a.text.now input_octets (length-replicate {A = ℕ} 4_096 0) c.pair-second.ensures c.pair-third.ensures (c.skip.ensures ∙ ap (behind_feeds 2) stands.text_is) c.word-last.ensures c.first_wrong.ensures

@@ -1,5 +1,4 @@
 -- `replies::bad_request` meets its contract. Assumes nothing.
-use borrow.Author.Rules.{rules}
 use Rattle.text.specs.Laws.Typing.{types_behind}
 use Rattle.replies.specs.Texts.{bad_request}
 use Rattle.replies.proofs.bad_request.Goals as goal

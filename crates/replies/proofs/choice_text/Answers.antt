@@ -1,5 +1,4 @@
 -- `replies::choice_text` meets its contract: one law at each way out. Assumes nothing.
-use borrow.Author.Rules.{rules}
 use Rattle.replies.specs.Laws.Typed.{choice_ok, choice_refused}
 use Rattle.replies.proofs.choice_text.Goals as goal
 

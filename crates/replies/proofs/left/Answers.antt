@@ -1,5 +1,4 @@
 -- `replies::left` meets its contract: one law at each way out. Assumes nothing.
-use borrow.Author.Rules.{rules}
 use Rattle.replies.specs.Laws.Typed.{left_ok, left_refused}
 use Rattle.replies.proofs.left.Goals as goal
 

@@ -1,9 +1,7 @@
 use Prim.Native.Nat.{◌-◌, ◌≤◌}
-use native.Mathlib.Omega.{arith}
 use lib.ListN.{length, take}
 use Rattle.text.specs.Typing.{Types}
 use Rattle.replies.specs.Texts.{line_octet, words_text}
-use Rattle.replies.specs.Laws.Typed.{words_none, words_more, words_whole, line_octet_lem}
 use Rattle.replies.proofs.line_words.Given as goal
 
 abbrev pub invariant-loop-i : goal.invariant-loop-i

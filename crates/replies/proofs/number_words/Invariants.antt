@@ -1,14 +1,7 @@
 use Prim.Native.Nat.{◌-◌, ◌≤◌}
-use native.Mathlib.Omega.{arith}
-use borrow.Author.Rules.{rules, sfits_of}
-use lib.IntN.{pos}
-use lib.ListN.{length, take, get_or}
-use mir.Syntax.{w32, w64}
-use mir.Val.{SFits}
-use mir.Facts.{to_z-of_z, sfits_widen}
+use lib.ListN.{length, take}
 use Rattle.text.specs.Typing.{Types}
 use Rattle.replies.specs.Texts.{next_signed, words_text}
-use Rattle.replies.specs.Laws.Typed.{words_none, words_more, words_whole}
 use Rattle.replies.proofs.number_words.Given as goal
 
 abbrev pub invariant-loop-i : goal.invariant-loop-i

@@ -1,9 +1,6 @@
 -- `replies::octet_words` meets its contract. The loop has typed the octets passed. Assumes nothing.
-use Prim.Native.Nat.{◌-◌, ◌≤◌}
 use native.Mathlib.Omega.{arith}
-use lib.ListN.{length, take}
-use Rattle.text.specs.Typing.{Types}
-use Rattle.replies.specs.Texts.{next, words_text}
+use Rattle.replies.specs.Texts.{next}
 use Rattle.replies.specs.Laws.Typed.{words_none, words_more, words_whole}
 use Rattle.replies.proofs.octet_words.Goals as goal
 

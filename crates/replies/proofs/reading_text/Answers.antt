@@ -1,5 +1,4 @@
 -- `replies::reading_text` meets its contract: one law at each way out. Assumes nothing.
-use borrow.Author.Rules.{rules}
 use Rattle.replies.specs.Laws.Typed.{read_ok, read_refused}
 use Rattle.replies.proofs.reading_text.Goals as goal
 

@@ -1,5 +1,4 @@
 -- `replies::rebuilt_text` meets its contract: one law at each way out. Assumes nothing.
-use borrow.Author.Rules.{rules}
 use Rattle.replies.specs.Laws.Typed.{rebuilt_ok, rebuilt_refused}
 use Rattle.replies.proofs.rebuilt_text.Goals as goal
 

@@ -1,5 +1,4 @@
 -- `replies::refusal` meets its contract: the words stand one behind the other. Assumes nothing.
-use borrow.Author.Rules.{rules}
 use Rattle.text.specs.Laws.Typing.{types_behind}
 use Rattle.replies.specs.Texts.{refusal_text}
 use Rattle.replies.proofs.refusal.Goals as goal

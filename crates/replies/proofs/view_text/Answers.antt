@@ -1,5 +1,4 @@
 -- `replies::view_text` meets its contract: one law at each way out. Assumes nothing.
-use borrow.Author.Rules.{rules}
 use Rattle.replies.specs.Laws.Typed.{view_ok, view_refused}
 use Rattle.replies.proofs.view_text.Goals as goal
 

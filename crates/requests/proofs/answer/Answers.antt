@@ -1,5 +1,4 @@
 -- `requests::answer` meets its contract: what the parser says of the line is answered. Assumes nothing.
-use borrow.Author.Rules.{rules}
 use Rattle.requests.specs.Laws.Requests.{asked_short, answer_asks, answer_wrong}
 use Rattle.requests.proofs.answer.Goals as goal
 

@@ -1,6 +1,5 @@
 -- `requests::copy` meets its contract: each word by its kind, and the copy. Assumes nothing.
 use mathlib.Core.Path.{ap, ◌∙◌}
-use native.Mathlib.Omega.{arith}
 use Rattle.words.specs.Numbers.{value_in}
 use Rattle.hex_words.specs.Octets.{octets_in, list_in}
 use Rattle.hex_words.specs.Laws.Octets.{octets_taken, octets_counted, octets_held}

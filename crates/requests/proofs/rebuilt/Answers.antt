@@ -1,5 +1,4 @@
 -- `requests::rebuilt` meets its contract: what the operation gave is its outcome. Assumes nothing.
-use borrow.Author.Rules.{rules}
 use lib.ListN.{length}
 use Rattle.guess.specs.Guess.{rebuild_of}
 use Rattle.replies.specs.Laws.Typed.{types_given}

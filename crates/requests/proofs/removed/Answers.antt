@@ -1,5 +1,4 @@
 -- `requests::removed` meets its contract: what the operation left is its outcome. Assumes nothing.
-use borrow.Author.Rules.{rules}
 use Rattle.replies.specs.Laws.Typed.{types_left}
 use Rattle.requests.proofs.removed.Goals as goal
 

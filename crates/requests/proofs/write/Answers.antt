@@ -1,7 +1,5 @@
 -- `requests::write` meets its contract: the room, the record, and the field. Assumes nothing.
 use mathlib.Core.Path.{ap, ◌∙◌}
-use native.Mathlib.Omega.{arith}
-use borrow.Author.Rules.{rules}
 use Rattle.words.specs.Numbers.{value_in}
 use Rattle.requests.specs.Laws.Requests.{word_in, words_from, room_held, room_counted, room_is, record_is, write_said}
 use Rattle.requests.proofs.write.Goals as goal

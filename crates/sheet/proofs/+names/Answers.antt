@@ -1,6 +1,5 @@
 -- `sheet::names` meets its contract: one law at each way out. Assumes nothing.
 use mathlib.Core.Path.{ap, ◌∙◌}
-use Prim.Native.Nat.{ℕ, ◌<◌}
 use native.Mathlib.Omega.{arith}
 use mir.Facts.{Fits-of_lt}
 use Rattle.codec.specs.Field.{flags}

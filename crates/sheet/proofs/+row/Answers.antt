@@ -1,5 +1,4 @@
 -- `sheet::row` meets its contract: one law at each way out. Assumes nothing.
-use Prim.Native.Nat.{ℕ, ◌<◌}
 use native.Mathlib.Omega.{arith}
 use mir.Facts.{Fits-of_lt}
 use Rattle.codec.specs.Field.{flags}

@@ -1,5 +1,4 @@
 -- `sheet::accepted` meets its contract: the lines stand one behind the other. Assumes nothing.
-use borrow.Author.Rules.{rules}
 use Rattle.spots.specs.Laws.Spots.{row-asks}
 use Rattle.sheet.specs.Laws.Whole.{record_typed}
 use Rattle.sheet.proofs.accepted.Goals as goal

@@ -2,7 +2,6 @@
 use mathlib.Core.Path.{◌≡◌, refl}
 use Prim.Native.Nat.{ℕ, suc, ◌≤◌, zero-le}
 use native.Mathlib.Omega.{arith}
-use borrow.Author.Rules.{rules}
 use Rattle.papers.specs.Names.{names048, names021, names007}
 use Rattle.sheet.specs.Items.{named, named_at}
 use Rattle.sheet.specs.Laws.Rows.{name_arm, name_past}

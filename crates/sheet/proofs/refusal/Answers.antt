@@ -1,5 +1,4 @@
 -- `sheet::refusal` meets its contract. Assumes nothing.
-use borrow.Author.Rules.{rules}
 use Rattle.sheet.specs.Laws.Whole.{refusal_typed}
 use Rattle.sheet.proofs.refusal.Goals as goal
 

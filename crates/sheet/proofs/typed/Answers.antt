@@ -1,5 +1,4 @@
 -- `sheet::typed` meets its contract: one law at each way out. Assumes nothing.
-use borrow.Author.Rules.{rules}
 use Rattle.sheet.specs.Laws.Whole.{sheet_empty, sheet_parts}
 use Rattle.sheet.proofs.typed.Goals as goal
 

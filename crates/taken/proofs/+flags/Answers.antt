@@ -1,6 +1,5 @@
 -- `taken::flags` meets its contract: one law at each way out. Assumes nothing.
 use mathlib.Core.Path.{sym, ap, ◌∙◌}
-use Prim.Native.Nat.{ℕ, ◌<◌}
 use native.Mathlib.Omega.{arith}
 use lib.ListN.{set}
 use mir.Facts.{Fits-of_lt}

@@ -1,7 +1,7 @@
 -- `taken::lines` meets its contract: one law at each way out. Assumes nothing.
 use mathlib.Core.Path.{sym, ap, ◌∙◌}
 use mathlib.Core.List.{[]}
-use Prim.Native.Nat.{ℕ, ◌+◌, ◌<◌}
+use Prim.Native.Nat.{◌+◌}
 use native.Mathlib.Omega.{arith}
 use mir.Facts.{Fits-of_lt}
 use lib.Seq.{sets}

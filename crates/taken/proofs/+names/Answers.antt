@@ -1,10 +1,8 @@
 -- `taken::names` meets its contract: one law at each way out. Assumes nothing.
 use mathlib.Core.Path.{◌≡◌, refl, sym, ap, ◌∙◌}
-use mathlib.Core.Logic.{⊎_elim}
 use mathlib.Core.List.{map}
-use Prim.Native.Nat.{ℕ, ◌+◌, ◌-◌, ◌≤◌, ◌<◌}
+use Prim.Native.Nat.{ℕ, ◌<◌}
 use native.Mathlib.Omega.{arith}
-use borrow.Author.Rules.{rules}
 use mir.Syntax.{w8}
 use mir.Val.{Fits}
 use mir.Facts.{Fits-of_lt}
@@ -36,7 +34,7 @@ pub overflow_add-i : goal.overflow_add-i
 overflow_add-i t c = let g = c.requires in Fits-of_lt (omega (arith, g))
 
 pub names-requires : goal.names-requires
-names-requires t c = 
+names-requires t c =
     let f = c.if-left-eq0.false in
     (omega (arith, c.decreases, f), (omega (arith, c.requires, f), omega (arith, c.requires, f)))
 
@@ -53,7 +51,7 @@ pub overflow_add-i-2 : goal.overflow_add-i-2
 overflow_add-i-2 t c = let g = c.requires in Fits-of_lt (omega (arith, g))
 
 pub names-requires-2 : goal.names-requires-2
-names-requires-2 t c = 
+names-requires-2 t c =
     let f = c.if-left-eq0.false in
     (omega (arith, c.decreases, f), (omega (arith, c.requires, f), omega (arith, c.requires, f)))
 
@@ -65,7 +63,7 @@ returns t c =
     let few : a.i < 8 = omega (arith, c.requires, c.if-left-eq0.false) in
     names_absent a.items a.i a.comma a.k a.left text low c.if-left-eq0.false few
     (elim c.if-opens.branch [
-      then-opens+else-opens-2 w ↦
+      | then-opens+else-opens-2 w ↦
           name_other a.items a.i a.comma a.k a.left text low c.if-left-eq0.false few c.front-before.ensures w.past-rest.ensures
           (name_word _ names_are w.wide.result w.word-name.ensures ∙ ap (λ k. (named_at k).name) (w.wide.ensures.0 ∙ ap (λ (z : Spot). z.0) w.spot_at-spot.ensures))
           (sym w.if-opens-2.false ∙ w.opens-then-opens.ensures)

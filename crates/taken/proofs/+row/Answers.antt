@@ -1,16 +1,9 @@
 -- `taken::row` meets its contract: one law at each way out. Assumes nothing.
-use mathlib.Core.Path.{◌≡◌, ap, ◌∙◌}
-use Prim.Native.Nat.{ℕ, ◌+◌, ◌-◌, ◌≤◌, ◌<◌}
+use mathlib.Core.Path.{ap, ◌∙◌}
 use native.Mathlib.Omega.{arith}
-use borrow.Author.Rules.{rules}
-use lib.Dec.{T}
 use mir.Facts.{Fits-of_lt}
-use Rattle.codec.specs.Item.{slots}
 use Rattle.codec.specs.Field.{flags}
 use Rattle.spots.specs.declared.Spot.{Spot}
-use Rattle.papers.specs.Papers.{SLOTS}
-use Rattle.shapes.specs.Shapes.{item_at}
-use Rattle.spots.specs.Spots.{spot_at, row_ok}
 use Rattle.spots.specs.Laws.Rows.{row_first}
 use Rattle.taken.specs.Laws.Rows.{row_none, item_room, row_there, row_absent}
 use Rattle.taken.proofs.+row.Goals as goal
@@ -21,7 +14,7 @@ returns-then-left-eq0 t c = let a = c.args in
     record { counts = all.0; kept = all.1 }
 
 pub item-next-requires : goal.item-next-requires
-item-next-requires t c = 
+item-next-requires t c =
     item_room c.args.k (row_first c.args.k c.args.left c.if-left-eq0.false c.requires.2).0
     (c.wide-at.ensures.0 ∙ ap (λ (z : Spot). z.0) c.spot_at-spot.ensures) (c.wide-base.ensures.0 ∙ ap (λ (z : Spot). z.1) c.spot_at-spot.ensures)
 
@@ -32,7 +25,7 @@ pub overflow_add-i : goal.overflow_add-i
 overflow_add-i t c = let g = c.requires in Fits-of_lt (omega (arith, g))
 
 pub row-requires : goal.row-requires
-row-requires t c = 
+row-requires t c =
     let f = c.if-left-eq0.false in
     (omega (arith, c.decreases, f), (omega (arith, c.requires, f), omega (arith, c.requires, f), (row_first c.args.k c.args.left f c.requires.2).1))
 
@@ -44,7 +37,7 @@ returns-then-present t c =
     record { counts = all.0; kept = all.1 }
 
 pub item-requires : goal.item-requires
-item-requires t c = 
+item-requires t c =
     item_room c.args.k (row_first c.args.k c.args.left c.if-left-eq0.false c.requires.2).0
     (c.wide-at.ensures.0 ∙ ap (λ (z : Spot). z.0) c.spot_at-spot.ensures) (c.wide-base.ensures.0 ∙ ap (λ (z : Spot). z.1) c.spot_at-spot.ensures)
 
@@ -55,7 +48,7 @@ pub overflow_add-i-2 : goal.overflow_add-i-2
 overflow_add-i-2 t c = let g = c.requires in Fits-of_lt (omega (arith, g))
 
 pub row-requires-2 : goal.row-requires-2
-row-requires-2 t c = 
+row-requires-2 t c =
     let f = c.if-left-eq0.false in
     (omega (arith, c.decreases, f), (omega (arith, c.requires, f), omega (arith, c.requires, f), (row_first c.args.k c.args.left f c.requires.2).1))
 

@@ -9,7 +9,7 @@ use Rattle.codec.specs.Field.{flags, row, Contents}
 use Rattle.codec.proofs.Laws.Tests.{holds}
 use Rattle.codec.proofs.Laws.Sets.{set_front}
 use Rattle.codec.proofs.Laws.Field.{row_okay}
-use Rattle.papers.specs.Names.{Named, names_of}
+use Rattle.papers.specs.Names.{names_of}
 use Rattle.papers.specs.Papers.{known, paper_of, items_of, all_slots, SLOTS}
 use Rattle.papers.proofs.Laws.Papers.{few_items, few_slots}
 use Rattle.layout.specs.declared.Record.{Record}

@@ -1,5 +1,4 @@
 -- `text::digits` meets its contract: one law at each way out. Assumes nothing.
-use Prim.Native.Nat.{ℕ, ◌<◌}
 use native.Mathlib.Omega.{arith}
 use Rattle.text.specs.Laws.Typing.{digits_none, digits_one, digits_more}
 use Rattle.text.proofs.+digits.Goals as goal

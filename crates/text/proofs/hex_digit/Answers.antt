@@ -1,5 +1,4 @@
 -- `text::hex_digit` meets its contract: one law at each way out. Assumes nothing.
-use borrow.Author.Rules.{rules}
 use Rattle.text.specs.Laws.Hex.{capital_number, capital_letter}
 use Rattle.text.proofs.hex_digit.Goals as goal
 

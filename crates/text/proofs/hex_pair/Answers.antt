@@ -1,5 +1,4 @@
 -- `text::hex_pair` meets its contract: one digit behind the other. Assumes nothing.
-use borrow.Author.Rules.{rules}
 use Rattle.text.specs.Laws.Hex.{types_pair}
 use Rattle.text.proofs.hex_pair.Goals as goal
 

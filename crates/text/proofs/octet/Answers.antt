@@ -1,5 +1,4 @@
 -- `text::octet` meets its contract: one law at each way out. Assumes nothing.
-use borrow.Author.Rules.{rules}
 use Rattle.text.specs.Laws.Typing.{octet_there, octet_full}
 use Rattle.text.proofs.octet.Goals as goal
 

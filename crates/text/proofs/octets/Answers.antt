@@ -1,9 +1,5 @@
 -- `text::octets` meets its contract. The loop has typed the pairs of the octets passed. Assumes nothing.
-use Prim.Native.Nat.{◌-◌, ◌≤◌}
 use native.Mathlib.Omega.{arith}
-use lib.ListN.{length, take}
-use Rattle.text.specs.Typing.{Types}
-use Rattle.text.specs.Hex.{pairs_text}
 use Rattle.text.specs.Laws.Hex.{no_pairs, pairs_more, hex_none, hex_whole}
 use Rattle.text.proofs.octets.Goals as goal
 

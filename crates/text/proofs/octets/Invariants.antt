@@ -1,9 +1,7 @@
 use Prim.Native.Nat.{◌-◌, ◌≤◌}
-use native.Mathlib.Omega.{arith}
 use lib.ListN.{length, take}
 use Rattle.text.specs.Typing.{Types}
 use Rattle.text.specs.Hex.{pairs_text}
-use Rattle.text.specs.Laws.Hex.{no_pairs, pairs_more, hex_none, hex_whole}
 use Rattle.text.proofs.octets.Given as goal
 
 abbrev pub invariant-loop-i : goal.invariant-loop-i

@@ -28,31 +28,31 @@ not_negative (negsuc n) t = let e : ◌≡◌ {A = ℕ} 0 1 = cc in absurd (omeg
 pub overflow_cast-z : goal.overflow_cast-z
 overflow_cast-z c =
     let below : lt_z c.args.z (pos 0) ≡ true =
-        rw (to_z-of_z c.ranges.z) at c.if-z-lt0.true in
+    rw (to_z-of_z c.ranges.z) at c.if-z-lt0.true in
     let flip : to_z w64 (18_446_744_073_709_551_615 - of_z w64 c.args.z) ≡ pos (mag c.args.z) =
-        complement c.args.z c.ranges.z below in
+    complement c.args.z c.ranges.z below in
     rw flip (tt, record { fits = omega (arith, c.ranges.z.sfits) })
 
 pub overflow_add-z : goal.overflow_add-z
 overflow_add-z c =
     let below : lt_z c.args.z (pos 0) ≡ true =
-        rw (to_z-of_z c.ranges.z) at c.if-z-lt0.true in
+    rw (to_z-of_z c.ranges.z) at c.if-z-lt0.true in
     let flip : to_z w64 (18_446_744_073_709_551_615 - of_z w64 c.args.z) ≡ pos (mag c.args.z) =
-        complement c.args.z c.ranges.z below in
+    complement c.args.z c.ranges.z below in
     rw flip (record { fits = omega (arith, c.ranges.z.sfits) })
 
 pub returns-then-z-lt0 : goal.returns-then-z-lt0
 returns-then-z-lt0 c =
     let below : lt_z c.args.z (pos 0) ≡ true =
-        rw (to_z-of_z c.ranges.z) at c.if-z-lt0.true in
+    rw (to_z-of_z c.ranges.z) at c.if-z-lt0.true in
     let flip : to_z w64 (18_446_744_073_709_551_615 - of_z w64 c.args.z) ≡ pos (mag c.args.z) =
-        complement c.args.z c.ranges.z below in
+    complement c.args.z c.ranges.z below in
     signed_below c.args.z below c.octet-next.ensures (rw flip at c.decimal.ensures)
 
 pub overflow_cast-z-2 : goal.overflow_cast-z-2
 overflow_cast-z-2 c =
     let above : lt_z c.args.z (pos 0) ≡ false =
-        rw (to_z-of_z c.ranges.z) at c.if-z-lt0.false in
+    rw (to_z-of_z c.ranges.z) at c.if-z-lt0.false in
     let z = c.args.z in
     let f = c.ranges.z in
     rw (to_z-of_z f) (not_negative z above, Fits-nat_abs {w = w64} {w' = w64} {z = z} tt f)
@@ -60,5 +60,5 @@ overflow_cast-z-2 c =
 pub returns : goal.returns
 returns c =
     let above : lt_z c.args.z (pos 0) ≡ false =
-        rw (to_z-of_z c.ranges.z) at c.if-z-lt0.false in
+    rw (to_z-of_z c.ranges.z) at c.if-z-lt0.false in
     signed_above c.args.z above (rw (to_z-of_z c.ranges.z) at c.decimal-2.ensures)

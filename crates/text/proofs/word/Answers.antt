@@ -1,8 +1,5 @@
 -- `text::word` meets its contract. The loop has typed the octets passed. Assumes nothing.
-use Prim.Native.Nat.{◌-◌, ◌≤◌}
 use native.Mathlib.Omega.{arith}
-use lib.ListN.{length, take}
-use Rattle.text.specs.Typing.{Types}
 use Rattle.text.specs.Laws.Typing.{types_none, word_more, word_whole}
 use Rattle.text.proofs.word.Goals as goal
 

@@ -1,6 +1,5 @@
 -- `views::as_view` meets its contract. Assumes nothing.
 use mathlib.Core.Path.{sym, ap}
-use borrow.Author.Rules.{rules}
 use Rattle.views.specs.Standing.{as_view}
 use Rattle.views.proofs.as_view.Goals as goal
 

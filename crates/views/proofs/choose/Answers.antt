@@ -1,7 +1,6 @@
 -- `views::choose` meets its contract: what is shown lies in the field that is named. Assumes nothing.
 use mathlib.Core.Path.{◌∙◌}
 use native.Mathlib.Omega.{arith}
-use borrow.Author.Rules.{rules}
 use Rattle.codec.proofs.Laws.Codec.{octets_all}
 use Rattle.views.specs.Laws.Choosing.{base_within, correction_within, part_neither, part_base, part_correction}
 use Rattle.views.specs.Laws.Parts.{at_neither, at_base, at_correction}

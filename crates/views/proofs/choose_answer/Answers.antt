@@ -1,6 +1,5 @@
 -- `views::choose_answer` meets its contract: one law at each way out. Assumes nothing.
 use mathlib.Core.Path.{◌≡◌, sym, ap, ap₂, ◌∙◌}
-use borrow.Author.Rules.{rules}
 use Rattle.layout.specs.declared.View.{View}
 use Rattle.layout.specs.declared.Which.{Which}
 use Rattle.layout.specs.declared.Which.TheVariants.{Base, Correction}

@@ -1,5 +1,4 @@
 -- `views::chosen` meets its contract: one law at each way out. Assumes nothing.
-use borrow.Author.Rules.{rules}
 use Rattle.views.specs.Laws.Choosing.{chosen_correction, chosen_base, chosen_neither}
 use Rattle.views.proofs.chosen.Goals as goal
 

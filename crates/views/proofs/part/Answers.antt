@@ -2,7 +2,6 @@
 use mathlib.Core.Path.{◌≡◌, sym, ap, ◌∙◌}
 use Prim.Native.Nat.{ℕ, ◌+◌, ◌-◌}
 use native.Mathlib.Omega.{arith}
-use borrow.Author.Rules.{rules}
 use lib.ListN.{take, drop}
 use Rattle.scope.specs.Views.{part_of}
 use Rattle.views.specs.Parts.{part_at}
@@ -29,9 +28,8 @@ slice_bounds-result-end-2 c =
 
 pub returns : goal.returns
 unfolding part_of part_at
-returns c =
-    (
-      ap (λ k. take k (drop c.in-Shown.from c.args.field.now)) (back c.in-Shown.from c.in-Shown.n)
-          ∙ sym (ap (part_of c.args.field.now) c.in-Shown.is),
-      sym (ap (part_at c.args.field.ref_ptr) c.in-Shown.is),
-    )
+returns c = (
+  ap (λ k. take k (drop c.in-Shown.from c.args.field.now)) (back c.in-Shown.from c.in-Shown.n)
+      ∙ sym (ap (part_of c.args.field.now) c.in-Shown.is),
+  sym (ap (part_at c.args.field.ref_ptr) c.in-Shown.is),
+)

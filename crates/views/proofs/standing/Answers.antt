@@ -2,7 +2,6 @@
 use mathlib.Core.Path.{ap₂, ◌∙◌}
 use Prim.Native.Nat.{◌-◌, ◌≤◌, ◌<◌}
 use native.Mathlib.Omega.{arith}
-use borrow.Author.Rules.{rules}
 use Rattle.layout.specs.declared.View.TheVariants.{Shown}
 use Rattle.views.specs.Laws.Standing.{stands_none, item_some, item_low, rises, stands_there, stands_absent}
 use Rattle.views.proofs.standing.Goals as goal
@@ -37,20 +36,20 @@ returns c =
 pub overflow_sub-i-then-present : goal.overflow_sub-i-then-present
 overflow_sub-i-then-present c =
     let low : ((1 ≤ c.wide-i.result) × (c.wide-i.result - 1 < 8)) =
-        let a = c.args in
-        (item_some a.cat a.items a.starts a.item c.is_item.ensures c.if-is_item.true c.wide-i.ensures.0, item_low a.cat a.items a.starts a.item c.is_item.ensures c.if-is_item.true c.wide-i.ensures.0) in
+    let a = c.args in
+    (item_some a.cat a.items a.starts a.item c.is_item.ensures c.if-is_item.true c.wide-i.ensures.0, item_low a.cat a.items a.starts a.item c.is_item.ensures c.if-is_item.true c.wide-i.ensures.0) in
     omega (arith, low)
 
 pub bounds-starts-i : goal.bounds-starts-i
 bounds-starts-i c =
     let low : ((1 ≤ c.wide-i.result) × (c.wide-i.result - 1 < 8)) =
-        let a = c.args in
-        (item_some a.cat a.items a.starts a.item c.is_item.ensures c.if-is_item.true c.wide-i.ensures.0, item_low a.cat a.items a.starts a.item c.is_item.ensures c.if-is_item.true c.wide-i.ensures.0) in
+    let a = c.args in
+    (item_some a.cat a.items a.starts a.item c.is_item.ensures c.if-is_item.true c.wide-i.ensures.0, item_low a.cat a.items a.starts a.item c.is_item.ensures c.if-is_item.true c.wide-i.ensures.0) in
     omega (arith, low)
 
 pub bounds-starts-i-then-present : goal.bounds-starts-i-then-present
 bounds-starts-i-then-present c =
     let low : ((1 ≤ c.wide-i.result) × (c.wide-i.result - 1 < 8)) =
-        let a = c.args in
-        (item_some a.cat a.items a.starts a.item c.is_item.ensures c.if-is_item.true c.wide-i.ensures.0, item_low a.cat a.items a.starts a.item c.is_item.ensures c.if-is_item.true c.wide-i.ensures.0) in
+    let a = c.args in
+    (item_some a.cat a.items a.starts a.item c.is_item.ensures c.if-is_item.true c.wide-i.ensures.0, item_low a.cat a.items a.starts a.item c.is_item.ensures c.if-is_item.true c.wide-i.ensures.0) in
     omega (arith, low)

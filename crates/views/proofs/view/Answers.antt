@@ -1,7 +1,6 @@
 -- `views::view` meets its contract: what is shown lies in the field. Assumes nothing.
 use mathlib.Core.Path.{sym, ap, ◌∙◌}
 use native.Mathlib.Omega.{arith}
-use borrow.Author.Rules.{rules}
 use Rattle.scope.specs.Views.{part_of}
 use Rattle.codec.proofs.Laws.Codec.{octets_all}
 use Rattle.views.specs.Laws.Surveyed.{view_within}

@@ -1,6 +1,5 @@
 -- `views::view_answer` meets its contract: one law at each way out. Assumes nothing.
 use mathlib.Core.Path.{ap, ◌∙◌}
-use borrow.Author.Rules.{rules}
 use Rattle.views.specs.Standing.{as_view}
 use Rattle.views.specs.Laws.Surveyed.{view_refused, view_rising, view_stands}
 use Rattle.views.proofs.view_answer.Goals as goal

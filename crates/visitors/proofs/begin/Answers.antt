@@ -1,5 +1,5 @@
 -- `visitors::begin` meets its contract: as many octets as are handed over are exchanged. Assumes nothing.
-use Rattle.std.proofs.Common.{◌≡◌, ◌++◌, length, take, drop, arith, ap, sym, ◌∙◌, take_all}
+use Rattle.std.proofs.Common.{◌++◌, length, drop, arith, ap, sym, ◌∙◌, take_all}
 use Rattle.visitors.proofs.begin.Goals as goal
 
 pub returns : goal.returns

@@ -1,5 +1,4 @@
 -- `visitors::passed` meets its contract: one law at each way out. Assumes nothing.
-use borrow.Author.Rules.{rules}
 use Rattle.visitors.specs.Laws.Passing.{passed_shown, passed_absent, passed_gone}
 use Rattle.visitors.proofs.passed.Goals as goal
 

@@ -1,5 +1,4 @@
 -- `walk::skip` meets its contract: one line at a time. Assumes nothing.
-use Prim.Native.Nat.{ℕ, ◌<◌}
 use native.Mathlib.Omega.{arith}
 use Rattle.walk.specs.Laws.Lines.{skip_none, skip_more}
 use Rattle.walk.proofs.+skip.Goals as goal

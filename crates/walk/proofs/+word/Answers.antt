@@ -1,5 +1,4 @@
 -- `walk::word` meets its contract: one word at a time. Assumes nothing.
-use Prim.Native.Nat.{ℕ, ◌<◌}
 use native.Mathlib.Omega.{arith}
 use Rattle.walk.specs.Laws.Lines.{word_first, word_more}
 use Rattle.walk.proofs.+word.Goals as goal

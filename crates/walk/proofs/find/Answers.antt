@@ -1,9 +1,6 @@
 -- `walk::find` meets its contract: from each place that the loop reaches the octet is found at the same place. Assumes nothing.
-use mathlib.Core.Path.{◌≡◌, ◌∙◌}
-use Prim.Native.Nat.{◌+◌, ◌-◌}
+use mathlib.Core.Path.{◌∙◌}
 use native.Mathlib.Omega.{arith}
-use lib.ListN.{length, drop}
-use Rattle.walk.specs.Lines.{place_in}
 use Rattle.walk.specs.Laws.Lines.{at_octet, at_other, at_end}
 use Rattle.walk.proofs.find.Goals as goal
 

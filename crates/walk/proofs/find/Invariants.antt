@@ -1,9 +1,7 @@
-use mathlib.Core.Path.{◌≡◌, ◌∙◌}
+use mathlib.Core.Path.{◌≡◌}
 use Prim.Native.Nat.{◌+◌, ◌-◌}
-use native.Mathlib.Omega.{arith}
 use lib.ListN.{length, drop}
 use Rattle.walk.specs.Lines.{place_in}
-use Rattle.walk.specs.Laws.Lines.{at_octet, at_other, at_end}
 use Rattle.walk.proofs.find.Given as goal
 
 abbrev pub invariant-loop-i : goal.invariant-loop-i

@@ -1,9 +1,6 @@
 -- `words::end` meets its contract: from each place that the loop reaches the end is the same. Assumes nothing.
-use mathlib.Core.Path.{◌≡◌, refl, ◌∙◌}
-use Prim.Native.Nat.{◌+◌, ◌-◌}
+use mathlib.Core.Path.{refl, ◌∙◌}
 use native.Mathlib.Omega.{arith}
-use lib.ListN.{length, drop}
-use Rattle.words.specs.Lines.{word_length}
 use Rattle.words.specs.Laws.Lines.{at_space, at_other, at_end}
 use Rattle.words.proofs.end.Goals as goal
 

@@ -1,9 +1,7 @@
-use mathlib.Core.Path.{◌≡◌, refl, ◌∙◌}
+use mathlib.Core.Path.{◌≡◌}
 use Prim.Native.Nat.{◌+◌, ◌-◌}
-use native.Mathlib.Omega.{arith}
 use lib.ListN.{length, drop}
 use Rattle.words.specs.Lines.{word_length}
-use Rattle.words.specs.Laws.Lines.{at_space, at_other, at_end}
 use Rattle.words.proofs.end.Given as goal
 
 abbrev pub invariant-loop-i : goal.invariant-loop-i

@@ -1,7 +1,6 @@
 -- `words::leads_well` meets its contract: one law at each way out. Assumes nothing.
 use mathlib.Core.Path.{sym}
 use native.Mathlib.Omega.{arith}
-use borrow.Author.Rules.{rules}
 use Rattle.words.specs.Laws.Numbers.{leads_none, leads_one, leads_several}
 use Rattle.words.proofs.leads_well.Goals as goal
 

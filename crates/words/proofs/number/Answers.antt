@@ -1,12 +1,10 @@
 -- `words::number` meets its contract: the digits passed say v, and from each place that the loop reaches the answer is the same. Assumes nothing.
 use mathlib.Core.Path.{◌≡◌, refl, sym, ap, ◌∙◌}
 use mathlib.Core.Bool.{true}
-use Prim.Native.Nat.{◌+◌, ◌-◌, ◌≤◌, ◌<◌}
+use Prim.Native.Nat.{◌+◌, ◌<◌}
 use native.Mathlib.Omega.{arith}
-use borrow.Author.Tests.{not-true, not-false}
-use lib.ListN.{length, drop, get_or}
+use lib.ListN.{drop, get_or}
 use Rattle.text.specs.Decimals.{is_digit}
-use Rattle.words.specs.Numbers.{number_in}
 use Rattle.words.specs.Laws.Numbers.{from_here, here_end, here_other, here_more, here_over, not_leading, leading, digit_least}
 use Rattle.words.proofs.number.Goals as goal
 
@@ -48,7 +46,7 @@ bounds-word-i-in-loop-i c = omega arith
 pub further-v-requires : goal.further-v-requires
 further-v-requires c =
     let digit : is_digit (get_or c.args.word.now c.loop-i.i 0) ≡ true =
-        sym c.is_digit.ensures ∙ c.if-not-is_digit.false in
+    sym c.is_digit.ensures ∙ c.if-not-is_digit.false in
     (omega arith, digit_least _ digit)
 
 pub overflow_add-result-then-most-v : goal.overflow_add-result-then-most-v
@@ -57,7 +55,7 @@ overflow_add-result-then-most-v c = omega arith
 pub returns-then-most-v : goal.returns-then-most-v
 returns-then-most-v c =
     let digit : is_digit (get_or c.args.word.now c.loop-i.i 0) ≡ true =
-        sym c.is_digit.ensures ∙ c.if-not-is_digit.false in
+    sym c.is_digit.ensures ∙ c.if-not-is_digit.false in
     let a = c.args in
     let h : a.limit < c.further-v.result = omega arith in
     sym
@@ -73,7 +71,7 @@ loop-i-smaller c = omega arith
 pub loop-i-preserved : goal.loop-i-preserved
 loop-i-preserved c =
     let digit : is_digit (get_or c.args.word.now c.loop-i.i 0) ≡ true =
-        sym c.is_digit.ensures ∙ c.if-not-is_digit.false in
+    sym c.is_digit.ensures ∙ c.if-not-is_digit.false in
     let a = c.args in (
       c.loop-i.invariant.0,
       omega arith,

@@ -1,12 +1,8 @@
-use mathlib.Core.Path.{◌≡◌, refl, sym, ap, ◌∙◌}
-use mathlib.Core.Bool.{true}
-use Prim.Native.Nat.{◌+◌, ◌-◌, ◌≤◌, ◌<◌}
-use native.Mathlib.Omega.{arith}
-use borrow.Author.Tests.{not-true, not-false}
-use lib.ListN.{length, drop, get_or}
-use Rattle.text.specs.Decimals.{is_digit}
+use mathlib.Core.Path.{◌≡◌}
+use Prim.Native.Nat.{◌-◌, ◌≤◌}
+use lib.ListN.{length, drop}
 use Rattle.words.specs.Numbers.{number_in}
-use Rattle.words.specs.Laws.Numbers.{from_here, here_end, here_other, here_more, here_over, not_leading, leading, digit_least}
+use Rattle.words.specs.Laws.Numbers.{from_here}
 use Rattle.words.proofs.number.Given as goal
 
 abbrev pub invariant-loop-i : goal.invariant-loop-i

@@ -2,7 +2,7 @@
 use mathlib.Core.Path.{ap, ◌∙◌}
 use Prim.Native.Nat.{◌<◌}
 use native.Mathlib.Omega.{arith}
-use borrow.Author.Rules.{rules, sfits_of}
+use borrow.Author.Rules.{sfits_of}
 use lib.IntN.{pos}
 use mir.Syntax.{w64}
 use mir.Facts.{to_z-of_z, to_z_pos}
@@ -23,12 +23,12 @@ returns-then-word-eq45 c =
 pub overflow_cast-result : goal.overflow_cast-result
 overflow_cast-result c =
     let small : c.number-2.result < 9_223_372_036_854_775_808 =
-        omega (arith, c.number-2.ensures, number_within 2_147_483_647 c.args.word.now) in
+    omega (arith, c.number-2.ensures, number_within 2_147_483_647 c.args.word.now) in
     record { sfits = small }
 
 pub returns : goal.returns
 returns c =
     let small : c.number-2.result < 9_223_372_036_854_775_808 =
-        omega (arith, c.number-2.ensures, number_within 2_147_483_647 c.args.word.now) in
+    omega (arith, c.number-2.ensures, number_within 2_147_483_647 c.args.word.now) in
     let w = c.args.word.now in
     to_z_pos w64 small ∙ ap pos c.number-2.ensures ∙ signed_above w c.if-word-eq45.false

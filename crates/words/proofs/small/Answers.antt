@@ -1,5 +1,4 @@
 -- `words::small` meets its contract: one law at each way out. Assumes nothing.
-use borrow.Author.Rules.{rules}
 use Rattle.words.specs.Laws.Numbers.{value_past, value_here}
 use Rattle.words.proofs.small.Goals as goal
 

@@ -16,16 +16,16 @@ returns-then-z-gt2147483647 c = whole_past c.args.word.now c.signed-z.ensures (r
 pub overflow_cast-result : goal.overflow_cast-result
 overflow_cast-result c =
     let kept : lt_z (pos 2_147_483_647) c.signed-z.result ≡ false =
-        rw (to_z-of_z (sfits_of c.signed-z.type_inv)) at c.if-z-gt2147483647.false in
+    rw (to_z-of_z (sfits_of c.signed-z.type_inv)) at c.if-z-gt2147483647.false in
     let narrow : SFits w32 c.signed-z.result =
-        record { sfits = whole_width c.args.word.now c.signed-z.ensures kept } in
+    record { sfits = whole_width c.args.word.now c.signed-z.ensures kept } in
     rw (to_z-of_z (sfits_of c.signed-z.type_inv)) narrow
 
 pub returns : goal.returns
 returns c =
     let kept : lt_z (pos 2_147_483_647) c.signed-z.result ≡ false =
-        rw (to_z-of_z (sfits_of c.signed-z.type_inv)) at c.if-z-gt2147483647.false in
+    rw (to_z-of_z (sfits_of c.signed-z.type_inv)) at c.if-z-gt2147483647.false in
     let narrow : SFits w32 c.signed-z.result =
-        record { sfits = whole_width c.args.word.now c.signed-z.ensures kept } in
+    record { sfits = whole_width c.args.word.now c.signed-z.ensures kept } in
     ap (λ z. to_z w32 (of_z w32 z)) (to_z-of_z {w = w64} {z = c.signed-z.result} (sfits_of c.signed-z.type_inv)) ∙ to_z-of_z {w = w32} {z = c.signed-z.result} narrow
     ∙ whole_here c.args.word.now c.signed-z.ensures kept

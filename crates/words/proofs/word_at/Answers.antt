@@ -1,5 +1,4 @@
 -- `words::word_at` meets its contract: the word ends at its space, and past the end there is none. Assumes nothing.
-use borrow.Author.Rules.{rules}
 use Rattle.words.specs.Laws.Lines.{end_later, end_within, word_cut, word_past}
 use Rattle.words.proofs.word_at.Goals as goal
 

@@ -1,12 +1,3 @@
-use mathlib.Core.Path.{refl}
-use Prim.Native.Nat.{ℕ, ◌+◌, ◌-◌, ◌<◌}
-use native.Mathlib.Omega.{arith}
-use borrow.Author.Rules.{rules}
-use lib.ListN.{drop}
-use mir.Facts.{Fits-of_lt}
-use Rattle.codec.specs.Field.{flags}
-use Rattle.spots.specs.Laws.Rows.{row_first}
-use Rattle.writer.specs.Laws.Rows.{row_end, row_on}
 use Rattle.writer.proofs.+row.Given as goal
 
 abbrev pub decreases-row : goal.decreases-row

@@ -1,5 +1,4 @@
 -- `writer::checked` meets its contract: what was laid is read back. Assumes nothing.
-use borrow.Author.Rules.{rules}
 use Rattle.writer.proofs.checked.Goals as goal
 
 pub returns : goal.returns

@@ -1,7 +1,5 @@
 -- `writer::item` meets its contract: by its shape, one line, or a chain and then its subfields. Assumes nothing.
-use Prim.Native.Nat.{◌-◌}
 use native.Mathlib.Omega.{arith}
-use borrow.Author.Rules.{rules}
 use mir.Facts.{Fits-of_lt}
 use Rattle.shapes.specs.Laws.Shapes.{shaped-well}
 use Rattle.writer.specs.Laws.Chains.{chain_turn, item_single, item_chained}

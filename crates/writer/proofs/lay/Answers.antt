@@ -1,6 +1,5 @@
 -- `writer::lay` meets its contract: LEN is known last. Assumes nothing.
 use mathlib.Core.Path.{refl}
-use borrow.Author.Rules.{rules}
 use Rattle.spots.specs.Laws.Spots.{row-asks}
 use Rattle.writer.specs.Laws.Frames.{lay_front}
 use Rattle.writer.proofs.lay.Goals as goal

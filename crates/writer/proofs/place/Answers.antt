@@ -1,6 +1,5 @@
 -- `writer::place` meets its contract. Assumes nothing.
 use mathlib.Core.Path.{ap, ◌∙◌}
-use borrow.Author.Rules.{rules}
 use Rattle.spots.specs.declared.Spot.{Spot}
 use Rattle.writer.specs.Laws.Rows.{place_there, place_not}
 use Rattle.writer.proofs.place.Goals as goal

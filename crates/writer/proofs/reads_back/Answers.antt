@@ -1,6 +1,5 @@
 -- `writer::reads_back` meets its contract: one law at each way out. Assumes nothing.
 use native.Mathlib.Omega.{arith}
-use borrow.Author.Rules.{rules}
 use Rattle.codec.proofs.Laws.Codec.{octets_all}
 use Rattle.writer.specs.Laws.Same.{denied}
 use Rattle.writer.specs.Laws.Checked.{back_same, back_other}

@@ -1,5 +1,4 @@
 -- `writer::same` meets its contract: one law at each way out. Assumes nothing.
-use borrow.Author.Rules.{rules}
 use Rattle.layout.specs.declared.Record.{Record}
 use Rattle.writer.specs.Laws.Same.{told_apart, denied, told_records}
 use Rattle.writer.proofs.same.Goals as goal

@@ -2,7 +2,7 @@
 use mathlib.Core.Path.{◌≡◌, ap, ◌∙◌}
 use Prim.Native.Nat.{◌+◌}
 use native.Mathlib.Omega.{arith}
-use borrow.Author.Rules.{rules, sfits_of}
+use borrow.Author.Rules.{sfits_of}
 use mir.Syntax.{w32}
 use mir.Facts.{to_z-of_z, Fits-of_lt}
 use Rattle.codec.specs.Item.{is_one}
@@ -19,13 +19,13 @@ overflow_add-base c =
 pub returns-then-is_one : goal.returns-then-is_one
 returns-then-is_one c =
     let told : (let a = c.args in c.is_one.result ≡ is_one (number_at a.numbers.now (a.base + c.format_of-format.result.flag))) =
-        c.is_one.ensures ∙ ap is_one (to_z-of_z {w = w32} {z = c.number_at-z.result} (sfits_of c.number_at-z.type_inv) ∙ c.number_at-z.ensures) in
+    c.is_one.ensures ∙ ap is_one (to_z-of_z {w = w32} {z = c.number_at-z.result} (sfits_of c.number_at-z.type_inv) ∙ c.number_at-z.ensures) in
     let a = c.args in
     λ zs us hz u hu. sub_there a.numbers.now a.b a.base zs hz u (format_flag a.b c.format_of-format.ensures) told us c.if-is_one.true (c.line.ensures us hu)
 
 pub returns : goal.returns
 returns c =
     let told : (let a = c.args in c.is_one.result ≡ is_one (number_at a.numbers.now (a.base + c.format_of-format.result.flag))) =
-        c.is_one.ensures ∙ ap is_one (to_z-of_z {w = w32} {z = c.number_at-z.result} (sfits_of c.number_at-z.type_inv) ∙ c.number_at-z.ensures) in
+    c.is_one.ensures ∙ ap is_one (to_z-of_z {w = w32} {z = c.number_at-z.result} (sfits_of c.number_at-z.type_inv) ∙ c.number_at-z.ensures) in
     let a = c.args in
     λ zs us hz u hu. sub_absent a.numbers.now a.b a.base zs hz u (format_flag a.b c.format_of-format.ensures) told us c.if-is_one.false a.octets.now a.at

@@ -1,6 +1,5 @@
 -- `writer::write` meets its contract: one law at each way out. Assumes nothing.
 use mathlib.Core.Path.{refl, sym, ◌∙◌}
-use borrow.Author.Rules.{rules}
 use Rattle.writer.specs.Laws.Writes.{wrote_unknown, wrote_refused, stands_whole, wrote_all}
 use Rattle.writer.proofs.write.Goals as goal
 

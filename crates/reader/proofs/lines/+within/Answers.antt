@@ -1,9 +1,8 @@
 -- `reader::lines::within` meets its contract: one law at each way out. Assumes nothing.
 use mathlib.Core.Path.{sym, ap, ◌∙◌}
 use mathlib.Core.Bool.{◌&&◌}
-use Prim.Native.Nat.{ℕ, ◌-◌, ◌/◌, ◌<◌}
+use Prim.Native.Nat.{◌-◌, ◌/◌}
 use native.Mathlib.Omega.{arith}
-use borrow.Author.Rules.{rules}
 use Rattle.codec.specs.Line.{in_limits}
 use Rattle.lengths.specs.Lines.{pieces_from}
 use Rattle.reader.specs.Numbers.{nums_at}

@@ -1,7 +1,6 @@
 -- `reader::lines::short` meets its contract. Assumes nothing.
 use mathlib.Core.Path.{sym}
 use native.Mathlib.Omega.{arith}
-use borrow.Author.Rules.{rules}
 use borrow.Author.Tests.{le-ltb}
 use mathlib.Core.Path.{refl, ◌≡◌}
 use mathlib.Core.Bool.{Bool, true, false}

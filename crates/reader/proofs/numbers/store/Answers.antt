@@ -1,9 +1,8 @@
 -- `reader::numbers::store` meets its contract: what is stored so far, with what is still to be stored, is always the same. Assumes nothing.
 use mathlib.Core.Path.{◌≡◌, refl, sym, ap, ◌∙◌, subst}
 use mathlib.Core.List.{List}
-use Prim.Native.Nat.{◌≤◌, ◌-◌}
+use Prim.Native.Nat.{◌-◌}
 use native.Mathlib.Omega.{arith}
-use borrow.Author.Rules.{rules}
 use lib.IntN.{ℤ}
 use lib.Seq.{sets}
 use mir.Facts.{Fits-of_lt}

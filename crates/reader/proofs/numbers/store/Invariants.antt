@@ -1,14 +1,8 @@
-use mathlib.Core.Path.{◌≡◌, refl, sym, ap, ◌∙◌, subst}
-use mathlib.Core.List.{List}
 use Prim.Native.Nat.{◌≤◌, ◌-◌}
-use native.Mathlib.Omega.{arith}
-use borrow.Author.Rules.{rules}
-use lib.IntN.{ℤ}
 use lib.Seq.{sets}
-use mir.Facts.{Fits-of_lt}
 use Rattle.lengths.specs.Lines.{pieces_from}
 use Rattle.reader.specs.Numbers.{nums_at}
-use Rattle.reader.specs.Laws.Taking.{Storing, piece_fits_lem, store_more}
+use Rattle.reader.specs.Laws.Taking.{Storing}
 use Rattle.reader.proofs.numbers.store.Given as goal
 
 abbrev pub invariant-loop-i : goal.invariant-loop-i

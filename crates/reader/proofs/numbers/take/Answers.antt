@@ -1,6 +1,5 @@
 -- `reader::numbers::take` meets its contract: the pieces of the line's format are those of the line. Assumes nothing.
 use native.Mathlib.Omega.{arith}
-use borrow.Author.Rules.{rules}
 use mir.Facts.{Fits-of_lt}
 use Rattle.lengths.specs.Laws.Formats.{format_octets, format_few, format_runs, format_narrow, format_first}
 use Rattle.reader.specs.Laws.Lines.{row_room}

@@ -1,6 +1,5 @@
 -- `reader::places::octet_at` meets its contract: past the end stands the default. Assumes nothing.
 use mathlib.Core.Path.{sym}
-use borrow.Author.Rules.{rules}
 use lib.ListN.{get_or-eq_default}
 use Rattle.reader.proofs.places.octet_at.Goals as goal
 

@@ -1,7 +1,6 @@
 -- `reader::places::only` meets its contract: one law at each way out. Assumes nothing.
 use mathlib.Core.Path.{◌∙◌}
 use native.Mathlib.Omega.{arith}
-use borrow.Author.Rules.{rules}
 use Rattle.reader.specs.Laws.Onward.{only_stops, only_over, only_ends}
 use Rattle.reader.proofs.places.only.Goals as goal
 

@@ -1,6 +1,5 @@
 -- `reader::places::row_021` meets its contract: one law at each item. Assumes nothing.
 use mathlib.Core.Path.{refl}
-use borrow.Author.Rules.{rules}
 use Rattle.reader.specs.Laws.Tables.{total, cut, first_flag, next_flags, count, slots, slots_of, item, cat048, cat021, cat007, items, placed_from, placed_in, placed, placed_at, lines_of, item_at, spots_from, spots, spot_at, line_run, item_run}
 use Rattle.reader.specs.Places.{places_on, places_from}
 use Rattle.reader.specs.Laws.Places.{kept_none, kept_on, kept_row}

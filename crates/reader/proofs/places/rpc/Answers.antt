@@ -1,7 +1,6 @@
 -- `reader::places::rpc` meets its contract: one law at each subfield. Assumes nothing.
 use mathlib.Core.Path.{refl, sym}
 use native.Mathlib.Omega.{arith}
-use borrow.Author.Rules.{rules}
 use Rattle.reader.specs.Laws.Tables.{total, cut, to_num, widths, count, nums, slots_of, cat048, cat021, cat007, items, placed_from, placed_in, placed, placed_at, lines_of, item_at, lines_from, parts_ok, flags_under, item_of, item_run, more_from}
 use Rattle.reader.specs.Laws.Items.{item_from}
 use Rattle.reader.specs.Laws.Parts.{Bits, bits, flag_is_bit, one_holds}

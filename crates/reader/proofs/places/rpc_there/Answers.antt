@@ -1,6 +1,5 @@
 -- `reader::places::rpc_there` meets its contract: one law at each way out. Assumes nothing.
 use native.Mathlib.Omega.{arith}
-use borrow.Author.Rules.{rules}
 use Rattle.reader.specs.Laws.Seen.{went_stop, went_absent, went_there}
 use Rattle.reader.proofs.places.rpc_there.Goals as goal
 

@@ -1,5 +1,4 @@
 -- `reader::rows::row` meets its contract: the row of each category. Assumes nothing.
-use borrow.Author.Rules.{rules}
 use Rattle.codec.specs.Field.{flags}
 use Rattle.reader.specs.Laws.Records.{fits_of, taken_of, place_048, place_021, place_007}
 use Rattle.reader.proofs.rows.row.Goals as goal

@@ -2,7 +2,6 @@
 use mathlib.Core.Path.{◌≡◌}
 use Prim.Native.Nat.{◌+◌}
 use native.Mathlib.Omega.{arith}
-use borrow.Author.Rules.{rules}
 use Rattle.lengths.specs.Lines.{first_at}
 use Rattle.reader.specs.Laws.Taking.{line_within, line_item, line_absent}
 use Rattle.reader.proofs.taking.line.Goals as goal

@@ -2,7 +2,6 @@
 use mathlib.Core.Path.{refl, sym, ap, subst}
 use Prim.Native.Nat.{◌+◌, ◌≤◌}
 use native.Mathlib.Omega.{arith}
-use borrow.Author.Rules.{rules}
 use lib.Dec.{eqb}
 use lib.ListN.{length, get_or}
 use Rattle.codec.specs.Pick.{pick}

@@ -1,5 +1,4 @@
 -- `reader::taking::second_flags` meets its contract. Assumes nothing.
-use borrow.Author.Rules.{rules}
 use borrow.Author.Tests.{lt-ltb, le-ltb}
 use Rattle.reader.proofs.taking.second_flags.Goals as goal
 

@@ -1,7 +1,6 @@
 -- `reader::taking::sgv` meets its contract: its first part, and the second if the first says so. Assumes nothing.
 use mathlib.Core.Path.{refl}
 use native.Mathlib.Omega.{arith}
-use borrow.Author.Rules.{rules}
 use Rattle.reader.specs.Seen.{goes_on}
 use Rattle.reader.specs.Laws.Tables.{count, slots_of, cat048, cat021, cat007, items, placed_from, placed_in, placed, placed_at, lines_of, item_at, lines_from, parts_ok, flags_under, item_of, more_from}
 use Rattle.reader.specs.Laws.Taking.{chain_last, first_on, few, Compound, item_ends, at_base, part_there, chain_ahead, item_absent}

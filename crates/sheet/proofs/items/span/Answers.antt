@@ -1,9 +1,5 @@
 -- `sheet::items::span` meets its contract: no octet passed is a space. Assumes nothing.
-use mathlib.Core.Path.{◌≡◌}
-use Prim.Native.Nat.{◌+◌, ◌-◌, ◌≤◌}
 use native.Mathlib.Omega.{arith}
-use lib.ListN.{length, drop}
-use Rattle.sheet.specs.Keys.{span}
 use Rattle.sheet.specs.Laws.Lines.{span_end, span-found, span_on}
 use Rattle.sheet.proofs.items.span.Goals as goal
 

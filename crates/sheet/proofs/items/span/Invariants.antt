@@ -1,9 +1,7 @@
 use mathlib.Core.Path.{◌≡◌}
 use Prim.Native.Nat.{◌+◌, ◌-◌, ◌≤◌}
-use native.Mathlib.Omega.{arith}
 use lib.ListN.{length, drop}
 use Rattle.sheet.specs.Keys.{span}
-use Rattle.sheet.specs.Laws.Lines.{span_end, span-found, span_on}
 use Rattle.sheet.proofs.items.span.Given as goal
 
 abbrev pub invariant-loop-i : goal.invariant-loop-i

@@ -1,9 +1,8 @@
 -- `sheet::numbers::group` meets its contract: one law at each way out. Assumes nothing.
 use mathlib.Core.Path.{◌≡◌, sym, subst}
-use Prim.Native.Nat.{ℕ, ◌-◌, ◌≤◌, ◌<◌}
+use Prim.Native.Nat.{ℕ, ◌≤◌}
 use native.Mathlib.Omega.{arith}
 use borrow.Author.Rules.{rules}
-use lib.ListN.{length}
 use mir.Facts.{Fits-of_lt}
 use Rattle.sheet.specs.Keys.{slots_in}
 use Rattle.sheet.specs.Laws.Numbers.{slots_few}

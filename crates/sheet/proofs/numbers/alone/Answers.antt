@@ -1,5 +1,4 @@
 -- `sheet::numbers::alone` meets its contract: nothing stands behind the name. Assumes nothing.
-use borrow.Author.Rules.{rules}
 use mir.Facts.{to_z-of_z}
 use Rattle.sheet.specs.Laws.Numbers.{alone_key}
 use Rattle.sheet.proofs.numbers.alone.Goals as goal

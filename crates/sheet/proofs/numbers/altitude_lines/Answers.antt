@@ -1,5 +1,5 @@
 -- `sheet::numbers::altitude_lines` meets its contract. Assumes nothing.
-use borrow.Author.Rules.{rules, sfits_of}
+use borrow.Author.Rules.{sfits_of}
 use mir.Syntax.{w32}
 use mir.Facts.{to_z-of_z}
 use Rattle.papers.specs.Names.{text}

@@ -1,6 +1,6 @@
 -- `writer::lines::gather` meets its contract: one law at each way out. Assumes nothing.
 use mathlib.Core.Path.{◌≡◌, ap, ◌∙◌}
-use Prim.Native.Nat.{ℕ, ◌+◌, ◌-◌, ◌^◌, ◌%◌, ◌≤◌, ◌<◌}
+use Prim.Native.Nat.{ℕ, ◌^◌, ◌%◌, ◌≤◌, ◌<◌}
 use native.Mathlib.Nat.{lt_of_lt_of_le}
 use native.Mathlib.Omega.{arith}
 use borrow.Author.Rules.{rules, sfits_of}
@@ -68,20 +68,20 @@ power-requires t c =
 pub overflow_mul-result : goal.overflow_mul-result
 overflow_mul-result t c =
     let digit_is : c.digit-d.result ≡ low_bits (c.args.code % 256 % 32) (number_at c.args.numbers.now c.args.slot) =
-        c.digit-d.ensures ∙ ap (low_bits (c.args.code % 256 % 32)) (to_z-of_z {w = w32} {z = c.number_at.result} (sfits_of c.number_at.type_inv) ∙ c.number_at.ensures) in
+    c.digit-d.ensures ∙ ap (low_bits (c.args.code % 256 % 32)) (to_z-of_z {w = w32} {z = c.number_at.result} (sfits_of c.number_at.type_inv) ∙ c.number_at.ensures) in
     let a = c.args in
     Fits-of_lt (under c.requires.1 (gather_product a.code a.left c.if-left-eq0.false a.numbers.now a.slot c.requires.0 c.if-code-eq0.false digit_is c.power.ensures))
 
 pub overflow_add-result : goal.overflow_add-result
 overflow_add-result t c =
     let digit_is : c.digit-d.result ≡ low_bits (c.args.code % 256 % 32) (number_at c.args.numbers.now c.args.slot) =
-        c.digit-d.ensures ∙ ap (low_bits (c.args.code % 256 % 32)) (to_z-of_z {w = w32} {z = c.number_at.result} (sfits_of c.number_at.type_inv) ∙ c.number_at.ensures) in
+    c.digit-d.ensures ∙ ap (low_bits (c.args.code % 256 % 32)) (to_z-of_z {w = w32} {z = c.number_at.result} (sfits_of c.number_at.type_inv) ∙ c.number_at.ensures) in
     let a = c.args in
     Fits-of_lt (under c.requires.1 (gather_sum a.code a.left c.if-left-eq0.false a.numbers.now a.slot c.requires.0 c.if-code-eq0.false digit_is c.power.ensures c.gather-low.ensures))
 
 pub returns : goal.returns
 returns t c =
     let digit_is : c.digit-d.result ≡ low_bits (c.args.code % 256 % 32) (number_at c.args.numbers.now c.args.slot) =
-        c.digit-d.ensures ∙ ap (low_bits (c.args.code % 256 % 32)) (to_z-of_z {w = w32} {z = c.number_at.result} (sfits_of c.number_at.type_inv) ∙ c.number_at.ensures) in
+    c.digit-d.ensures ∙ ap (low_bits (c.args.code % 256 % 32)) (to_z-of_z {w = w32} {z = c.number_at.result} (sfits_of c.number_at.type_inv) ∙ c.number_at.ensures) in
     let a = c.args in
     gather_on a.code a.left c.if-left-eq0.false a.numbers.now a.slot c.requires.0 c.if-code-eq0.false digit_is c.power.ensures c.gather-low.ensures

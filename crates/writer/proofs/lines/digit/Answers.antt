@@ -4,7 +4,6 @@ use mathlib.Core.Bool.{true, false}
 use Prim.Native.Nat.{ℕ, suc, ◌-◌, ◌%◌, ◌^◌, ◌<◌, ◌≤◌}
 use native.Mathlib.Nat.{mod-lt}
 use native.Mathlib.Omega.{arith}
-use borrow.Author.Rules.{rules}
 use borrow.Author.Tests.{ltb-true}
 use lib.Dec.{T}
 use lib.IntN.{ℤ, pos, negsuc, nat_abs}
@@ -51,26 +50,26 @@ overflow_sub-result c = some c.args.w c.power-full.ensures
 pub overflow_cast-result : goal.overflow_cast-result
 overflow_cast-result c =
     let below : lt_z c.args.z (pos 0) ≡ true =
-        rw (to_z-of_z c.ranges.z) at c.if-z-lt0.true in
+    rw (to_z-of_z c.ranges.z) at c.if-z-lt0.true in
     let flip : to_z w32 (4_294_967_295 - of_z w32 c.args.z) ≡ pos (mag c.args.z) =
-        flipped c.args.z c.ranges.z below in
+    flipped c.args.z c.ranges.z below in
     rw flip (tt, record { fits = omega (arith, c.ranges.z.sfits) })
 
 pub overflow_sub-result-then-z-lt0 : goal.overflow_sub-result-then-z-lt0
 overflow_sub-result-then-z-lt0 c =
     let below : lt_z c.args.z (pos 0) ≡ true =
-        rw (to_z-of_z c.ranges.z) at c.if-z-lt0.true in
+    rw (to_z-of_z c.ranges.z) at c.if-z-lt0.true in
     let flip : to_z w32 (4_294_967_295 - of_z w32 c.args.z) ≡ pos (mag c.args.z) =
-        flipped c.args.z c.ranges.z below in
+    flipped c.args.z c.ranges.z below in
     let h : 0 < c.power-full.result = some c.args.w c.power-full.ensures in
     rw flip (omega (arith, mod-lt (mag c.args.z) h))
 
 pub returns-then-z-lt0 : goal.returns-then-z-lt0
 returns-then-z-lt0 c =
     let below : lt_z c.args.z (pos 0) ≡ true =
-        rw (to_z-of_z c.ranges.z) at c.if-z-lt0.true in
+    rw (to_z-of_z c.ranges.z) at c.if-z-lt0.true in
     let flip : to_z w32 (4_294_967_295 - of_z w32 c.args.z) ≡ pos (mag c.args.z) =
-        flipped c.args.z c.ranges.z below in
+    flipped c.args.z c.ranges.z below in
     rw (flip, c.power-full.ensures) (low_below c.args.w c.args.z below)
 
 pub overflow_cast-result-2 : goal.overflow_cast-result-2

@@ -2,7 +2,6 @@
 use Prim.Native.Nat.{ℕ, ◌+◌, ◌*◌, ◌^◌, ◌%◌, ◌≤◌, ◌<◌}
 use native.Mathlib.Nat.{lt_of_lt_of_le}
 use native.Mathlib.Omega.{arith}
-use borrow.Author.Rules.{rules}
 use lib.Pow.{pow_pos, pow_mono}
 use mir.Facts.{Fits-of_lt}
 use Rattle.lengths.specs.Laws.Lines.{few_line_slots}
@@ -44,8 +43,8 @@ power-full-requires c = omega (arith, format_fx_few c.args.b c.format_of-format.
 pub overflow_mul-n : goal.overflow_mul-n
 overflow_mul-n c =
     let fits_octets : (c.gather-n.result * c.power-full.result + c.args.fx % c.power-full.result < 2 ^ (8 * c.format_of-format.result.octets)) =
-        let a = c.args in
-        line_number a.b c.format_of-format.ensures a.numbers.now a.base a.fx a.at a.octets.now c.gather-n.ensures c.power-full.ensures in
+    let a = c.args in
+    line_number a.b c.format_of-format.ensures a.numbers.now a.base a.fx a.at a.octets.now c.gather-n.ensures c.power-full.ensures in
     let h = under (format_few c.args.b c.format_of-format.ensures) fits_octets in
     Fits-of_lt (omega (arith, h))
 
@@ -55,15 +54,15 @@ nonzero_rem-fx c = let f = c.format_of-format.result.below in omega (arith, c.po
 pub overflow_add-n : goal.overflow_add-n
 overflow_add-n c =
     let fits_octets : (c.gather-n.result * c.power-full.result + c.args.fx % c.power-full.result < 2 ^ (8 * c.format_of-format.result.octets)) =
-        let a = c.args in
-        line_number a.b c.format_of-format.ensures a.numbers.now a.base a.fx a.at a.octets.now c.gather-n.ensures c.power-full.ensures in
+    let a = c.args in
+    line_number a.b c.format_of-format.ensures a.numbers.now a.base a.fx a.at a.octets.now c.gather-n.ensures c.power-full.ensures in
     Fits-of_lt (under (format_few c.args.b c.format_of-format.ensures) fits_octets)
 
 pub spill-requires : goal.spill-requires
 spill-requires c =
     let fits_octets : (c.gather-n.result * c.power-full.result + c.args.fx % c.power-full.result < 2 ^ (8 * c.format_of-format.result.octets)) =
-        let a = c.args in
-        line_number a.b c.format_of-format.ensures a.numbers.now a.base a.fx a.at a.octets.now c.gather-n.ensures c.power-full.ensures in
+    let a = c.args in
+    line_number a.b c.format_of-format.ensures a.numbers.now a.base a.fx a.at a.octets.now c.gather-n.ensures c.power-full.ensures in
     let few = format_few c.args.b c.format_of-format.ensures in
     (omega (arith, c.if-k-at.false, few), few, fits_octets)
 
