@@ -1,5 +1,5 @@
 -- `refdesk::take_in` meets its contract: each turn takes an octet, and what will be left stays the same. Assumes nothing.
-use Rattle.std.proofs.Common.{◌<◌, arith, length}
+use Rattle.std.proofs.Common.{arith}
 use Rattle.refdesk.specs.Turns.{further, since_line, since_none, since_all}
 use Rattle.refdesk.proofs.take_in.Goals as goal
 
