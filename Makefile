@@ -32,7 +32,7 @@ $(foreach name,$(NAMES),crates/$(name)/out/$(name)): $(SOURCES)
 crates/exports_c/out/libexports_c.a: $(SOURCES)
 	$(NEEDS_RT)
 	mkdir -p target
-	cd $(@D)/.. && rt lib >$(CURDIR)/target/$(@F).out 2>&1 || { cat $(CURDIR)/target/$(@F).out; exit 1; }
+	tools/archive >target/$(@F).out 2>&1 || { cat target/$(@F).out; exit 1; }
 	touch $@
 
 .SECONDEXPANSION:
