@@ -3,7 +3,8 @@ use Rattle.std.specs.Prelude.{refl}
 use Rattle.std.proofs.Common.{subst₂}
 use Rattle.scope.specs.Angle.{rounded, udeg_of, left_of}
 use Rattle.scope.specs.Sheet.{sheet_of}
-use Rattle.demands.specs.Angles.{Exact, exact_angle, one_exact, exact_number}
+use Rattle.demands.specs.Angles.{Exact}
+use Rattle.demands.proofs.Angles.{exact_angle, one_exact, exact_number}
 use Rattle.demands.specs.Leftovers.{Leftovers}
 use Rattle.demands.specs.Defined.{program}
 use Rattle.demands.proofs.Kept.Reads.{demand2}

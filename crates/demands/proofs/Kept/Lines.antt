@@ -17,7 +17,7 @@ use Rattle.scope.specs.Pressure.{eq_int, tenths_of, sense_of}
 use Rattle.scope.specs.Reading.{field_of}
 use Rattle.scope.specs.Sheet.{digits_of, decimal, signed_decimal, key_line, number_text, numbers_text, lines_there, lines_text}
 use Rattle.scope.specs.Sheet.{chain_text, item_text, row_text, items_text, refusal_text, field_text, sheet_of}
-use Rattle.demands.specs.Angles.{exact_angle}
+use Rattle.demands.proofs.Angles.{exact_angle}
 use Rattle.demands.specs.Leftovers.{Nowhere, NotLast, LineKey, Coordinate, latitude, longitude, three_lines, Lines, none, angle as three, other}
 
 -- ---- tests of a word, which the names of the papers are computed by

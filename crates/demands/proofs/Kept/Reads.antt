@@ -18,7 +18,7 @@ use Rattle.scope.specs.Sheet.{sheet_of}
 use Rattle.scope.proofs.Laws.Reading.{read_front}
 use Rattle.scope.proofs.Laws.Views.{front_length, view_present, part_is_text, choice_correction, choice_base}
 use Rattle.codec.proofs.Laws.Tests.{holds}
-use Rattle.demands.specs.Angles.{angle_nearest}
+use Rattle.demands.proofs.Angles.{angle_nearest}
 use Rattle.demands.specs.RoundTrips.{written_reads}
 use Rattle.demands.specs.Terms.{record_of, IsField, numbered, bit_of}
 use Rattle.demands.specs.Demands.{parts, Reads, Demand2}
