@@ -1,4 +1,4 @@
--- The theory of the format, for any layout. Definitions stand here, what follows from them under Laws. What a field
+-- The theory of the format, for any layout. Definitions stand here, what follows from them in proofs/, under Laws. What a field
 -- is, said of a paper as it is printed and of bits, and what is wrong with octets that are none: Printed, Meaning,
 -- Faults. That these are what is read and refused: Laws.Meaning, Laws.Faults. How it is read and written, in this
 -- order: numbers (Signed, Radix), codecs (Codec), then the levels of a field (Line, Item, Field, Frame, Change); Made

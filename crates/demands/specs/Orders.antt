@@ -1,4 +1,4 @@
--- Two edits of a field, one after the other (02, Ask 8): of `editOf`, for any lists and any room.
+-- Two edits of a field, one after the other (02, Ask 8): of `edit_of`, for any lists and any room.
 use Rattle.std.specs.Prelude.{◌≡◌, refl, ◌≢◌, Bool, ◌&&◌, List, [], ◌∷◌, ℕ, suc, ◌-◌, T, leb, length, get_or, set}
 use Rattle.std.proofs.Common.{sym, ap, ap₂, ◌∙◌, subst, le_refl, set-set}
 use Rattle.std.proofs.lemmas.List.{set_comm}

@@ -13,7 +13,7 @@ use Rattle.papers.specs.Cat048.{printed048, cat048}
 use Rattle.papers.specs.Cat021.{printed021, cat021}
 use Rattle.papers.specs.Cat007.{printed007, cat007}
 
--- ---- the items: 007's after its first are 048's (Laws.Papers, items-shared)
+-- ---- the items: 007's after its first are 048's (Laws.Papers, `items_shared`)
 
 unfoldable pub items : List Item
 unfolding cat048 cat021 cat007
@@ -103,7 +103,7 @@ unfoldable pub lengths : List Length
 unfolding structures
 lengths = map printed_length structures
 
--- ---- both tables line by line: the octets and spare bits of a line (Laws.Lines, lengths-at), and its pieces
+-- ---- both tables line by line: the octets and spare bits of a line (Laws.Lines, `lengths_at`), and its pieces
 
 abbrev pub length_of : Line × ℕ → Length
 length_of p = (p.0.octets, spare_mask p.0)

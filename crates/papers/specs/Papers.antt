@@ -43,11 +43,11 @@ longest_of cat = longest (paper_of cat)
 abbrev pub numbered : ℕ → ℕ → Bool
 numbered cat item = leb 1 item && leb item (items_of cat)
 
--- no field of any category is longer (Laws.Papers, few-octets)
+-- no field of any category is longer (Laws.Papers, `few_octets`)
 abbrev pub LONGEST : ℕ
 LONGEST = 52
 
--- the numbers of all items, and that no paper has more (Laws.Papers, few-slots): the slots of a record
+-- the numbers of all items, and that no paper has more (Laws.Papers, `few_slots`): the slots of a record
 unfoldable pub all_slots : List Item → ℕ
 all_slots [] = 0
 all_slots (it ∷ its) = slots it + all_slots its

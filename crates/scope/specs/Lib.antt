@@ -1,7 +1,7 @@
 -- What each operation of 01 answers and promises, a file for each of its sections: reading, writing, views and the
 -- choice, the desk, the angle, the sheet; where the items stand; and the octets of 01 computed. Of 02 the visitors' copy,
 -- when two fields are alike, the pressure as a set, what an angle leaves, and which texts are sheets. What follows from
--- them stands under Laws.
+-- them stands in proofs/, under Laws.
 pub mod Reading
 pub mod Outputs
 pub mod Writing

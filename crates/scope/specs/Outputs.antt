@@ -9,7 +9,7 @@ use Rattle.layout.specs.declared.Answer.TheVariants.{Accepted, Refused}
 unfoldable pub with_room : ℕ → List ℕ → Outcome (List ℕ)
 with_room room b = pick (leb (length b) room) (accepted b) (refused 11 0)
 
--- "On every refusal by any operation .. the length answered is 0" (Answer.lengthOf)
+-- "On every refusal by any operation .. the length answered is 0" (Answer.length_of)
 unfoldable pub answer_of : Outcome (List ℕ) → Answer
 answer_of (accepted b) = Accepted (length b)
 answer_of (refused n p) = Refused n p

@@ -1,4 +1,4 @@
--- The words of a line by place: the word that starts at a place is what the code takes, and the places of `parseOf` are those of the line's words.
+-- The words of a line by place: the word that starts at a place is what the code takes, and the places of `parse_of` are those of the line's words.
 use Rattle.std.specs.Prelude.{◌≡◌, Bool, ◌&&◌, eqb, length, get_or, take, drop}
 use Rattle.std.proofs.Math.Path.{refl, ap}
 use Rattle.std.proofs.Common.{sym, ap₂, ◌∙◌, drop_of_length-le, length-take-le}

@@ -1,4 +1,4 @@
--- The number that a word writes. A number is a plain decimal, as `decimal` and `signedDecimal` (01, 'The sheet') write it: digits only, no 0 in front but of 0 itself,
+-- The number that a word writes. A number is a plain decimal, as `decimal` and `signed_decimal` (01, 'The sheet') write it: digits only, no 0 in front but of 0 itself,
 -- and a `-` only before a number below 0. So a number is written by one word, and a word writes at most one number.
 use Rattle.std.specs.Prelude.{◌≡◌, Bool, false, not, ◌&&◌, List, [], ◌∷◌, ℕ, zero, suc, ◌+◌, ◌-◌, ◌*◌, ◌≤◌, ◌<◌, ltb, leb, eqb, ℤ, pos, negsuc, length, get_or, drop}
 use Rattle.std.proofs.Math.Path.{refl, sym}
