@@ -2,7 +2,8 @@
 -- operations compute, for every input. Top (promises) says that the code computes one, without a fault, and that it
 -- meets them.
 -- Octets s: each element is below 256, as in every slice of octets. Terms has the words and where each is defined.
-use Rattle.demands.specs.Terms.{◌≡◌, ◌≢◌, false, List, [], ◌∷◌, ◌++◌, ℕ, zero, suc, ◌+◌, ◌-◌, ◌≤◌, ◌<◌, T, ℤ}
+use Rattle.std.specs.Prelude.{◌≡◌, ◌≢◌, ◌∷◌, ◌++◌, ◌+◌, ◌-◌, ◌≤◌, ◌<◌}
+use Rattle.demands.specs.Terms.{false, List, [], ℕ, zero, suc, T, ℤ}
 use Rattle.demands.specs.Terms.{length, take, drop, set, Octets, len_of, Whole, Change, remove, put, alone}
 use Rattle.demands.specs.Terms.{new_octets, new_flag, Entry, IsItem, zeros_in, HasLayout, Contents, known}
 use Rattle.demands.specs.Terms.{printed_of}

@@ -1,6 +1,7 @@
 -- The exact angle (02, Ask 7), its sentences quoted above the statements: of a program's angles, then of its sheets.
 -- `Exact n r l` (Angles) says of r millionths and a leftover l that they are those of the number n.
-use Rattle.demands.specs.Terms.{◌≡◌, ◌≢◌, List, [], ◌++◌, ℕ, ◌≤◌, ℤ, pos, neg_ℤ, length, Exact}
+use Rattle.std.specs.Prelude.{◌≡◌, ◌≢◌, ◌++◌, ◌≤◌}
+use Rattle.demands.specs.Terms.{List, [], ℕ, ℤ, pos, neg_ℤ, length, Exact}
 use Rattle.demands.specs.Terms.{sheet_of, key_line, text, signed_decimal, handed_out}
 use Rattle.demands.specs.Demands.{Program}
 

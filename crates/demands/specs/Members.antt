@@ -1,6 +1,7 @@
 -- Two members, either order (02, Ask 8), each sentence quoted above its statement. They are of a desk, by what its runs
 -- do; Terms has the words.
-use Rattle.demands.specs.Terms.{◌≡◌, ◌≢◌, List, ◌++◌, ℕ, ◌≤◌, length, take, Octets, len_of, Change, new_octets}
+use Rattle.std.specs.Prelude.{◌≡◌, ◌≢◌, ◌++◌, ◌≤◌}
+use Rattle.demands.specs.Terms.{List, ℕ, length, take, Octets, len_of, Change, new_octets}
 use Rattle.demands.specs.Terms.{Record, Answer, Accepted, IsField, handed_out}
 use Rattle.demands.specs.Demands.{Program}
 

@@ -1,7 +1,8 @@
 -- Pressure at the two ends (02, Ask 1), its sentences quoted above the statements: first of the sets themselves, then of a
 -- program, by what its sheets say. `stands n t` (scope: Pressure) is whether the number n can stand for a setting of t tenths
 -- of hPa.
-use Rattle.demands.specs.Terms.{◌≡◌, ◌≢◌, List, ◌∷◌, ◌++◌, ℕ, ◌+◌, ◌≤◌, T, ℤ, pos, le_z, ◌≤ℤ◌, length, Octets}
+use Rattle.std.specs.Prelude.{◌≡◌, ◌≢◌, ◌∷◌, ◌++◌, ◌+◌, ◌≤◌, ◌≤ℤ◌}
+use Rattle.demands.specs.Terms.{List, ℕ, T, ℤ, pos, le_z, length, Octets}
 use Rattle.demands.specs.Terms.{Record, number_at, IsField, bit_of, handed_out}
 use Rattle.demands.specs.Terms.{sheet_of, key_line, text, decimal, signed_decimal, stands}
 use Rattle.demands.specs.Demands.{Program}

@@ -1,6 +1,7 @@
 -- Reading the sheet back (02, Ask 6), each sentence quoted above its statements. They are of a program, as those of
 -- Demands; Terms has the words. What is printed, and how far a text agrees with it, is said of the program's own reading.
-use Rattle.demands.specs.Terms.{◌≡◌, ◌≢◌, List, [], ◌∷◌, ◌++◌, ℕ, suc, ◌≤◌, ◌<◌, T, length, take, Octets, len_of}
+use Rattle.std.specs.Prelude.{◌≡◌, ◌≢◌, ◌∷◌, ◌++◌, ◌≤◌, ◌<◌}
+use Rattle.demands.specs.Terms.{List, [], ℕ, suc, T, length, take, Octets, len_of}
 use Rattle.demands.specs.Terms.{Answer, Accepted, sheet_of, text, Record, IsField, Fault, refused_by, handed_out, are_lines}
 use Rattle.demands.specs.Terms as term
 use Rattle.demands.specs.Demands.{Program}

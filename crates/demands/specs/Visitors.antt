@@ -1,6 +1,7 @@
 -- The visitors' copy (02, Ask 5), each sentence quoted above its statements. They are of a program, as those of Demands;
 -- Terms has the words.
-use Rattle.demands.specs.Terms.{◌≡◌, ◌≢◌, List, [], ◌∷◌, ◌++◌, ℕ, zero, suc, ◌≤◌, ◌<◌, T, eqb, pick, length, take}
+use Rattle.std.specs.Prelude.{◌≡◌, ◌≢◌, ◌∷◌, ◌++◌, ◌≤◌, ◌<◌}
+use Rattle.demands.specs.Terms.{List, [], ℕ, zero, suc, T, eqb, pick, length, take}
 use Rattle.demands.specs.Terms.{Octets, Record, Accepted, items_of, IsField, Fault, numbered, bit_of, refused_by}
 use Rattle.demands.specs.Terms.{handed_out}
 use Rattle.demands.specs.Demands.{Program}
