@@ -7,7 +7,7 @@ ghost use Rattle.scope.specs.Angle.{udeg_of, left_of};
 ghost use Rattle.angle.specs.Half.{half_of};
 
 // Both are i64: those of a 24-bit number would fit an i32, the millionths of any i32 would not.
-#[derive(Drop)]
+#[derive(Clone, Copy)]
 pub struct Angle {
     // Millionths of a degree, nearest, halves away from zero.
     pub udeg: i64,

@@ -9,7 +9,7 @@ ghost use Rattle.inputs.specs.Inputs.{Within};
 use std::io::Read;
 
 // How many octets there are, or that a read has failed.
-#[derive(Drop)]
+#[derive(Clone, Copy)]
 pub enum Input {
     Octets(usize),
     Failed,

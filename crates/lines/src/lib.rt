@@ -9,7 +9,7 @@ ghost use Rattle.lines.specs.Joining.{Keeps, Joins};
 pub const ROOM: usize = 16385;
 
 // The place behind the octets that were taken, how many octets are held of the line, and whether its line feed was met.
-#[derive(Drop)]
+#[derive(Clone, Copy)]
 pub struct Joined {
     pub at: usize,
     pub held: usize,

@@ -8,7 +8,7 @@ ghost use Rattle.scope.specs.Sheet.{key_line, signed_decimal, number_text};
 ghost use Rattle.text.specs.Typing.{Types};
 
 // Latitude and longitude, numbers of 24 bits.
-#[derive(Drop)]
+#[derive(Clone, Copy)]
 pub struct Position {
     pub lat: i32,
     pub lon: i32,

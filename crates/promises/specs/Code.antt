@@ -25,7 +25,7 @@ use Rattle.desk.proofs.replace.Statement as replace
 use Rattle.desk.proofs.replace.Met as replace-met
 use Rattle.desk.proofs.replace.Reads as replace-claims
 use Rattle.visitors.proofs.copy.Statement as copy
-use Rattle.visitors.proofs.copy.Met as copy_met
+use Rattle.visitors.proofs.copy.Met as copy-met
 use Rattle.visitors.proofs.copy.Reads as copy-claims
 use Rattle.views.proofs.view_answer.Statement as view_answer
 use Rattle.views.proofs.view_answer.Met as view-answer-met
@@ -106,7 +106,7 @@ computed = record {
   write = record { runs = write-met.met; asks = λ lives args. tt; gives = λ lives args a ends. handing };
   removes = record { runs = remove-met.met; asks = λ lives args. tt; gives = λ lives args a ends. handing };
   replaces = record { runs = replace-met.met; asks = λ lives args. tt; gives = λ lives args a ends. handing };
-  copies = record { runs = copy_met.met; asks = λ lives args. tt; gives = λ lives args a ends. handing };
+  copies = record { runs = copy-met.met; asks = λ lives args. tt; gives = λ lives args a ends. handing };
   view_answer = record { runs = view-answer-met.met; asks = λ lives args. tt; gives = λ lives args v ends p. p };
   view = record { runs = view-met.met; asks = λ lives args. tt; gives = λ lives args x ends p. p };
   choose_answer = record { runs = choose-answer-met.met; asks = λ lives args. tt; gives = λ lives args c ends p. p };

@@ -18,14 +18,14 @@ use layout::{Numbers, Record, SLOTS};
 pub const LONGEST: usize = 16384;
 
 // A request by its number in the table, or the number, from 1, of the first word that is wrong; 0 for a line that is too long.
-#[derive(Drop)]
+#[derive(Clone, Copy)]
 pub enum Judged {
     Asks(usize),
     Wrong(usize),
 }
 
 // And where the line's first words start. A request of more words has them in a run, taken from the place of its first.
-#[derive(Drop)]
+#[derive(Clone, Copy)]
 pub struct Parsed {
     pub judged: Judged,
     pub starts: [usize; 10],

@@ -273,7 +273,7 @@ fn mes_there(s: &[u8], a: usize, o: u8, i: usize) -> usize
 }
 
 // The step of a row of items, and where each of them begins, an absent one with the next; behind the last item where it ends.
-#[derive(Drop)]
+#[derive(Clone, Copy)]
 pub struct Places(pub usize, pub [u8; 9]);
 
 fn row_048(s: &[u8], ind: u8) -> Places

@@ -16,7 +16,7 @@ ghost use Rattle.rebuild.specs.Rebuilds.{given_by, Rebuilds};
 use layout::{Answer, LONGEST};
 
 // The category, 0 on a refusal, and the length of the field, or the refusal's number and its line.
-#[derive(Drop)]
+#[derive(Clone, Copy)]
 pub struct Rebuilt {
     pub cat: u8,
     pub answer: Answer,

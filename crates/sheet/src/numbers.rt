@@ -11,14 +11,14 @@ use layout::Numbers;
 use position::Position;
 
 // The resolution, a flag, and the altitude, a number of 14 bits.
-#[derive(Drop)]
+#[derive(Clone, Copy)]
 pub struct Altitude {
     pub res: i32,
     pub ga: i32,
 }
 
 // The time offset, a number of 8 bits.
-#[derive(Drop)]
+#[derive(Clone, Copy)]
 pub struct Offset {
     pub tos: i32,
 }

@@ -55,9 +55,9 @@ end_begins K m x h =
 abbrev row_of : ℕ → Contents → List ℕ
 row_of cat r = row_text (flags r.0) (paper_of cat) (names_of cat) r.1
 
-module _ (cat : ℕ) (Known-is : T (known cat)) where
+module _ (cat : ℕ) (known_is : T (known cat)) where
   row_is_whole : (r : Contents) → T (whole (row_of cat r))
-  row_is_whole r = row_whole last (flags r.0) (paper_of cat) (names_of cat) (papers_right cat Known-is) r.1
+  row_is_whole r = row_whole last (flags r.0) (paper_of cat) (names_of cat) (papers_right cat known_is) r.1
 
   -- a line that tells the indicator: what stands behind its first `=`
   told : List ℕ → ℕ
@@ -73,7 +73,7 @@ module _ (cat : ℕ) (Known-is : T (known cat)) where
         → Fits n (key_line (text "items") (items_text [] (flags (indicator_in (names_of cat) t)) (names_of cat))) t K'
     unfolding indicator_in value_in told behind_octet without
     keep_items n t K K' h c =
-        let i = items_told cat Known-is r.0 (indicator_lt (paper_of cat) r o) spare_none in
+        let i = items_told cat known_is r.0 (indicator_lt (paper_of cat) r o) spare_none in
         keep_told (text "items") (λ j. items_text [] (flags j) (names_of cat)) told r.0 tt i.0 i.1 n t K K' h c
 
     pub keep_contents : (n : ℕ) (t : List ℕ) (K K' : ℕ → List ℕ → Type 0) → Fits n (behind_len cat r) t K
@@ -90,7 +90,7 @@ module _ (cat : ℕ) (Known-is : T (known cat)) where
         (λ e m g.
         subst (λ j. ((j, vs j) ≡ r → (m : ℕ) (x : List ℕ) → K (suc m) x → K' (suc m) x) → Fits (suc m) (row_of cat (j, vs j) ++ end_line) t2 K') (sym e)
         (λ d. fits_join (suc m) (row_of cat (r.0, vs r.0)) end_line t2 K' (row_is_whole (r.0, vs r.0))
-        (keep_row last (flags r.0) (paper_of cat) (names_of cat) (papers_right cat Known-is) r.1 (row_okay (paper_of cat) r o) (suc m) t2 (λ j x. Fits j end_line x K) (λ j x. Fits j end_line x K') (end_begins K)
+        (keep_row last (flags r.0) (paper_of cat) (names_of cat) (papers_right cat known_is) r.1 (row_okay (paper_of cat) r o) (suc m) t2 (λ j x. Fits j end_line x K) (λ j x. Fits j end_line x K') (end_begins K)
         (fits_split (suc m) (row_of cat r) end_line t2 K (row_is_whole r) g)
         (λ es j x u. fits_then (suc j) end_line x K K' end_whole u (λ y. d (λ i. (r.0, es i)) y _)))) c))
 
@@ -98,10 +98,10 @@ module _ (cat : ℕ) (Known-is : T (known cat)) where
   pub contents-made : (t : List ℕ) → T ((body (paper_of cat)).okay (contents_in cat t))
   unfolding body indicator contents_in indicator_in total
   contents-made t =
-      let m = as_many cat Known-is in
+      let m = as_many cat known_is in
       let i = indicator_in_lem (paper_of cat) (names_of cat) m.0 m.1 (value_in t) in
       and_in ((indicator (paper_of cat)).okay (indicator_of (names_of cat) (value_in t))) _ (and_in ((number 1).okay (indicator_of (names_of cat) (value_in t))) _ (number_okay 1 (indicator_of (names_of cat) (value_in t)) i.0) i.1)
-      (row_made last (flags (indicator_of (names_of cat) (value_in t))) (paper_of cat) (names_of cat) (papers_right cat Known-is) (behind_feed t))
+      (row_made last (flags (indicator_of (names_of cat) (value_in t))) (paper_of cat) (names_of cat) (papers_right cat known_is) (behind_feed t))
 
 -- ---- the whole of it
 

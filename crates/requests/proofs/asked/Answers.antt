@@ -1,4 +1,5 @@
 -- `requests::asked` meets its contract: a handler for each request. Assumes nothing.
+use Rattle.std.proofs.Common.{rules}
 use Rattle.answers.specs.Answers.{asked}
 use Rattle.requests.specs.Laws.Requests.{word_in, words_from, asked_as, none_asked}
 use Rattle.requests.proofs.asked.Goals as goal
@@ -25,7 +26,7 @@ pub returns-in-3 : goal.returns-in-3
 unfolding asked
 returns-in-3 c =
     let a = c.args in
-    asked_as a.q (word_in a.line.now a.starts.now) (words_from a.line.now a.starts.now) 3 c.in-3.is c.view.ensures
+    asked_as a.q (word_in a.line.now a.starts.now) (words_from a.line.now a.starts.now) 3 c.in-3.is (search rules)
 
 pub returns-in-4 : goal.returns-in-4
 unfolding asked
