@@ -1,10 +1,8 @@
--- 02, Ask 8, of runs of `desk::remove` and `desk::replace`, from their contracts alone: Post is what the check makes of an
+-- 02, Ask 8: the runs of `desk::remove` and `desk::replace` that their contracts allow. Post is what the check makes of an
 -- `ensures`, with the arguments at entry, the answer and the arguments at exit.
 use Rattle.std.specs.Prelude.{List, ℕ}
 use Rattle.codec.specs.Change.{Change, remove, put}
 use Rattle.layout.specs.declared.Answer.{Answer}
-use Rattle.demands.specs.Members.{Members}
-use Rattle.demands.proofs.Kept.Members.{Keeps, promised}
 use Rattle.desk.proofs.remove.Reads as removal
 use Rattle.desk.proofs.replace.Reads as replace
 
@@ -16,10 +14,3 @@ pub data Ran : ℕ → List ℕ → ℕ → ℕ → Change → List ℕ → Answ
   replaced : (l : _) (x : _) (a : Answer) (e : _) → replace.Post l x a e
       → Ran x.0 x.1.0.now x.1.1.0 x.1.1.1.0 (put x.1.1.1.1.0.now)
       x.1.1.1.1.1.0.now a e.1.1.1.1.1.0.now
-
-keeps : Keeps Ran
-keeps cat s list item ch out a left (removed l x b e p) = p
-keeps cat s list item ch out a left (replaced l x b e p) = p
-
-pub members : Members Ran
-members = promised Ran keeps
