@@ -58,6 +58,7 @@ PROMISES = [
     ("interface", "what crosses to C as definitions, and that a word tells its answer"),
     ("arrays", "`read_array`, `write_array`"),
     ("exports", "`ref_read`, `ref_write`, `ref_view`, `ref_choose`, `ref_remove`, `ref_replace`, `ref_copy`, `ref_sheet`, `ref_rebuild`"),
+    ("exports_c", "the nine of `exports`, by the names that C links"),
     ("promises", "the code computes the program of the demands, each promise allows one result, and runs are as 02 asks by their contracts alone"),
     ("inputs", "`read_in`"),
     ("listing", "the private function behind `main`: what is written is the sheet of what was read"),
@@ -66,7 +67,7 @@ PROMISES = [
 ]
 
 # what was measured before the kit did so
-OLDER = "With the older kit rattle-kit-5b-plain each edit proved its crate again, and the 192 of them took 1,546 CPU seconds."
+OLDER = "With the older kit rattle-kit-5b-plain each edit proved its crate again, and the 192 of then took 1,546 CPU seconds."
 
 # 01, 'How firm each promise is': "These must be unable to meet it"
 FIVE = [
@@ -118,7 +119,7 @@ def changed(old, new):
     while end < min(len(a), len(b)) - start and a[-1 - end] == b[-1 - end]:
         end += 1
     first = max(0, start - 1)
-    cut = lambda words: " ".join(words[first : len(words) - end + (1 if end else 0)])[:36]
+    cut = lambda words: " ".join(words[first : len(words) - end + (1 if end else 0)])[:30]
     return f"{code(cut(a))} → {code(cut(b))}"
 
 
@@ -160,20 +161,17 @@ def edits_of_crates():
 # the functions for C hand their arguments on, and one wrong program is enough for each
 DOORS = {"exports", "exports_c"}
 
-# a crate whose functions only call those of the same names in another, whose wrong programs count for them
-CALLS = {"exports_c": "exports"}
-
 ITEM = re.compile(r" *(pub )?(?:extern \"C\" )?(?:fn|const) (\w+)")
 
 
 def items_of(crate):
     """The functions and constants of a crate's source: module, name, whether it is a public function of the root, first
-    line and text."""
+    line, which is that of its attribute where it has one, and text."""
     found = []
     for file in sorted((ROOT / "crates" / crate / "src").rglob("*.rt")):
         lines = file.read_text().splitlines()
         heads = [(at, ITEM.match(line)) for at, line in enumerate(lines)]
-        heads = [(at, head) for at, head in heads if head] + [(len(lines), None)]
+        heads = [(at - lines[at - 1].lstrip().startswith("#["), head) for at, head in heads if head] + [(len(lines), None)]
         for (at, head), (end, _) in zip(heads, heads[1:]):
             public = bool(head[1]) and "fn " in head[0] and file.name == "lib.rt"
             found.append((file.stem, head[2], public, at, "\n".join(lines[at:end])))
@@ -229,22 +227,11 @@ def reached(name, named):
     return seen
 
 
-def counted(crate, edits):
-    """The wrong programs of each public function of a crate, with those of the function that it only calls."""
-    found = wrong_programs(crate, edits.get(crate, []))
-    if crate not in CALLS:
-        return found
-    below = wrong_programs(CALLS[crate], edits.get(CALLS[crate], []))
-    texts = {name: text for _, name, public, _, text in items_of(crate) if public}
-    called = {name: f"{CALLS[crate]}::{name}(" in texts[name] for name in found}
-    return {name: own + (below[name] if called[name] else []) for name, own in found.items()}
-
-
 def wanting():
     """The public functions, of whatever crate, with fewer wrong programs than they must have."""
     edits = edits_of_crates()
     crates = sorted(path.parent.parent.name for path in ROOT.glob("crates/*/src/lib.rt"))
-    return [f"{crate}::{name}" for crate in crates for name, found in counted(crate, edits).items()
+    return [f"{crate}::{name}" for crate in crates for name, found in wrong_programs(crate, edits.get(crate, [])).items()
             if len(found) < (1 if crate in DOORS else 2)]
 
 
@@ -300,7 +287,7 @@ def section(crate, promise, edits, log):
     for edit in edits[crate]:
         what = "; ".join(changed(old, new) for _, old, new in changes(edit) if not old.startswith(("use ", "ghost use ")))
         print(f"| `{edit.stem}` | {what} | {fact(edit)} | {refused_in(crate, edit.stem, log)} |")
-    functions = counted(crate, edits)
+    functions = wrong_programs(crate, edits.get(crate, []))
     if functions:
         print("\n| public function | its wrong programs, and those of what it calls |\n|---|---|")
     for name, found in functions.items():
@@ -318,8 +305,7 @@ def page(edits, log):
     print("The table says what was changed, the fact that no longer holds, and where the check first fails. "
           "`python3 tests/ledger.py` makes this page from the edits and from what a run of `rt` said of them.")
     print("A wrong line counts for every public function that runs it or looks it up: each of them has two or more, a "
-          "function for C, which only hands on, one or more (`tests/selftest.py` counts). Those of `exports_c` call those of "
-          "`exports` by the same names, whose wrong lines are theirs.\n")
+          "function for C, which only hands on, one or more (`tests/selftest.py` counts).\n")
     print("The five of 01, 'How firm each promise is':\n")
     print("| must be unable to meet the promise | refused as |\n|---|---|")
     for what, where in FIVE:
