@@ -26,7 +26,7 @@ PROMISES = [
     ("leaves", "`wide`, `wide64`, `octet`, `octet64`, `less`, `less64`, `front`"),
     ("flags", "`index`, `present`, `with_item`, `without_item`, `is_one`"),
     ("papers", "the papers as data: whole, alike where two papers are, and reading the specimens"),
-    ("layout", "`is_known`, `items_of`, `spare_of`, `longest_of`, `is_item`, `number_at`, `which_number`"),
+    ("layout", "`is_known`, `items_of`, `spare_of`, `longest_of`, `is_item`, `number_at`; the number of a reason and of a field of a choice, `at`"),
     ("scope", "01's operations, the visitors' copy, the pressure and the exact angle as definitions: the edge octets and sheets computed from them"),
     ("outputs", "`deliver`"),
     ("lengths", "`format_of`"),
@@ -38,7 +38,7 @@ PROMISES = [
     ("writer", "`write`"),
     ("desk", "`remove`, `replace`"),
     ("visitors", "`copy`"),
-    ("text", "`octet`, `word`, `decimal`, `signed`, `octets`, `line_end`, `pair`, `signed_pair`, `word_pair`"),
+    ("text", "`new`, `as_slice`, `octet`, `word`, `decimal`, `signed`, `octets`, `line_end`, `pair`, and `type_into` of each `Word`"),
     ("position", "`lines`"),
     ("pressure", "`lines`"),
     ("longest", "the longest sheet"),
@@ -161,7 +161,7 @@ def edits_of_crates():
 # the functions for C hand their arguments on, and one wrong program is enough for each
 DOORS = {"exports", "exports_c"}
 
-ITEM = re.compile(r" *(pub )?(?:extern \"C\" )?(?:fn|const) (\w+)")
+ITEM = re.compile(r" *(pub )?(?:extern \"C\" )?(?:fn|const|static) (\w+)")
 
 
 def items_of(crate):
@@ -211,12 +211,12 @@ def changed_lines(crate, edit):
 
 
 def names_in(module, text, modules):
-    """The crate's own functions that are called in an item of a module, and the constants that stand in it, of
+    """The crate's own functions that are called in an item of a module, and the constants and methods that stand in it, of
     whatever module."""
     code = re.sub(r"//.*", "", text)
-    calls = re.findall(r"(?:(\w+)::)?(\w+)\(", code)
-    constants = re.findall(r"\b[A-Z][A-Z_0-9]+\b", code)
-    return {(place or module, name) for place, name in calls} | {(place, name) for place in modules for name in constants}
+    calls = re.findall(r"(?<![.\w:])(?:(\w+)::)?(\w+)\(", code)
+    anywhere = re.findall(r"\b[A-Z][A-Z_0-9]+\b|(?<=\.)\w+(?=\()|(?<=::)\w+(?=\()", code)
+    return {(place or module, name) for place, name in calls} | {(place, name) for place in modules for name in anywhere}
 
 
 def reached(name, named):

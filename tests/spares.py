@@ -31,7 +31,7 @@ def source(crate):
 
 def table(crate, name):
     """The lines of a constant array, and that each of them is an entry or a comment of its own."""
-    length, text = re.search(rf"const {name}: \[\w+; (\d+)\] = \[\n(.*?)\n\];", source(crate), re.S).groups()
+    length, text = re.search(rf"static {name}: \[\w+; (\d+)\] = \[\n(.*?)\n\];", source(crate), re.S).groups()
     found = [line.strip() for line in text.splitlines() if not line.strip().startswith("//")]
     if len(found) != int(length):
         raise SyntaxError(f"{name} has {length} entries, and {len(found)} lines")
@@ -89,10 +89,10 @@ def lines():
 
 
 def asked():
-    """The lines of code in the reader, the writer, the views and the desk that speak of spare bits."""
+    """The lines of code in the reader, the writer, the views and the desk that speak of spare bits; the name of refusal 6 alone says nothing of them."""
     files = [file for crate in ("reader", "writer", "views", "desk") for file in sorted((ROOT / "crates" / crate / "src").rglob("*.rt"))]
     code = [line.partition("//")[0].strip() for file in files for line in file.read_text(encoding="utf-8").splitlines()]
-    return [line for line in code if "spare" in line.lower() and not line.startswith("ghost ")]
+    return [line for line in code if "spare" in line.replace("Reason::Spare", "").lower() and not line.startswith("ghost ")]
 
 
 # ---- docs/SPARE.md
@@ -113,7 +113,7 @@ beside the counts of items, in `Cat048`, `Cat021` and `Cat007` (`crates/layout/s
 makes one comparison: 6 where a bit of a part or subfield is set that the mask has, 4 where one of the indicator is. There is
 no other condition on spare bits. In the definitions they stand in the layout files, `crates/papers/specs/Cat048.antt`,
 `Cat021.antt` and `Cat007.antt`, as `spares 32 31` or `spare_bit 1`. That a mask is what its layout file calls spare is
-proved of the whole table by one computation (`lengths/proofs/table_of_lengths`), and of the indicators by one for each
+proved of the whole table by one computation (`lengths/proofs/format_of`), and of the indicators by one for each
 (`layout/proofs/spare_of`).
 """
 

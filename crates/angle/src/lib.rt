@@ -16,6 +16,7 @@ pub struct Angle {
 }
 
 // Half of the divisor, on the product's own side of zero: a quotient of i64 drops what is left over, toward zero.
+#[tactic(auto, unfolding(crate::specs::Half::half_of))]
 fn half(product: i64) -> i64
     ensures { result ≡ half_of product }
 {
@@ -26,13 +27,14 @@ fn half(product: i64) -> i64
 }
 
 // The millionths are the product's nearest whole part, and the leftover is what remains of that very product.
+#[tactic(auto, unfolding(crate::specs::Half::half_of))]
 pub fn exact(n: i32) -> Angle
     ensures { (result.udeg ≡ udeg_of n) × (result.left ≡ left_of n) }
 {
-    let product = (n as i64) * 703_125;
+    let product = i64::from(n) * 703_125;
     let udeg = (product + half(product)) / 32_768;
     Angle {
-        udeg: udeg,
+        udeg,
         left: product - udeg * 32_768,
     }
 }

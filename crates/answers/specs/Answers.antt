@@ -2,10 +2,7 @@
 use Rattle.std.specs.Prelude.{List, [], ◌∷◌, ◌++◌, ℕ, eqb, drop}
 use Rattle.codec.specs.Pick.{pick}
 use Rattle.codec.specs.Change.{remove, put}
-use Rattle.layout.specs.declared.Answer.{Answer}
-use Rattle.layout.specs.declared.Answer.TheVariants.{Accepted, Refused}
-use Rattle.layout.specs.declared.View.{View}
-use Rattle.layout.specs.declared.Choice.{Choice}
+use Rattle.layout.specs.Answer.{Answer, Accepted, Refused, View, Choice}
 use Rattle.scope.specs.Reading.{read_of}
 use Rattle.scope.specs.Writing.{write_of}
 use Rattle.scope.specs.Sheet.{sheet_of}
@@ -16,10 +13,8 @@ use Rattle.words.specs.Numbers.{value_in}
 use Rattle.guess.specs.Guess.{rebuild_of}
 use Rattle.hex_words.specs.Octets.{octets_in, list_in}
 use Rattle.protocol.specs.Line.{words_of, nth}
-use Rattle.protocol.specs.Forms.{parse_of}
+use Rattle.protocol.specs.Forms.{Judged, Asks, Wrong, parse_of}
 use Rattle.protocol.specs.Record.{record_in}
-use Rattle.protocol.specs.declared.Judged.{Judged}
-use Rattle.protocol.specs.declared.Judged.TheVariants.{Asks, Wrong}
 use Rattle.replies.specs.Texts.{bad_request, refusal_text, output_text, given_text, view_text, choice_text, reading_text, sheet_text}
 
 -- ---- what the words of a request are, by their kinds

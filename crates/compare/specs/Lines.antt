@@ -1,7 +1,7 @@
--- Lines that are counted.
-use Rattle.std.specs.Prelude.{ℕ, suc, eqb}
-use Rattle.codec.specs.Pick.{pick}
+-- The line in which two texts differ first, as code gives it.
+use Rattle.std.specs.Prelude.{Option, ℕ, ltb}
+use Rattle.std.specs.Bool.{then_some}
 
--- how many line feeds there are, k before this octet
-unfoldable pub counted : ℕ → ℕ → ℕ
-counted k o = pick (eqb o 10) (suc k) k
+-- None is line 0, which no text has
+abbrev pub line_of : ℕ → Option ℕ
+line_of n = then_some (ltb 0 n) n

@@ -1,7 +1,7 @@
 -- The program that scope and guess define, operation by operation.
 use Rattle.std.specs.Prelude.{List, ℕ, length}
 use Rattle.codec.specs.Frame.{Outcome}
-use Rattle.layout.specs.declared.Answer.{Answer}
+use Rattle.layout.specs.Answer.{Answer}
 use Rattle.scope.specs.Reading.{read_of}
 use Rattle.scope.specs.Outputs.{with_room, answer_of, after}
 use Rattle.scope.specs.Writing.{write_of}

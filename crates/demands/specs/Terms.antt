@@ -27,14 +27,9 @@ pub use Rattle.papers.specs.Papers.{numbered, known, printed_of, items_of}
 pub use Rattle.papers.specs.Papers.{SLOTS}
 pub use Rattle.layout.specs.declared.Record.{Record}
 pub use Rattle.layout.specs.Record.{all_parts, all_numbers, number_at}
-pub use Rattle.layout.specs.declared.Reading.{Reading}
-pub use Rattle.layout.specs.declared.Answer.{Answer}
-pub use Rattle.layout.specs.declared.Answer.TheVariants.{Accepted, Refused}
-pub use Rattle.layout.specs.declared.View.{View}
-pub use Rattle.layout.specs.declared.View.TheVariants.{Shown, Hidden}
+pub use Rattle.layout.specs.Answer.{Reading, Answer, Accepted, Refused, View, Shown, Hidden, Choice}
 pub use Rattle.layout.specs.declared.Which.{Which}
 pub use Rattle.layout.specs.declared.Which.TheVariants.{Neither, Base, Correction}
-pub use Rattle.layout.specs.declared.Choice.{Choice}
 -- the record of a refused field; the sheet's text, a line of it, and the letters and decimals of a line; whether a number
 -- can stand for a barometric setting; the angle that is nearest, halves away from zero, and that with its exact leftover
 pub use Rattle.scope.specs.Reading.{no_record}

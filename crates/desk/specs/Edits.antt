@@ -1,8 +1,6 @@
 -- The ways out of the desk: each answers what 01 defines.
-use Rattle.std.specs.Prelude.{◌≡◌, List, ℕ, zero, suc, ◌+◌, ◌-◌, ◌≤◌, ◌<◌, length, get_or, take}
-use Rattle.layout.specs.declared.Answer.{Answer}
-use Rattle.layout.specs.declared.Answer.TheVariants.{Accepted, Refused}
-use Rattle.layout.specs.declared.Surveyed.{Surveyed}
+use Rattle.std.specs.Prelude.{◌≡◌, List, ℕ, zero, suc, ◌+◌, ◌-◌, ◌≤◌, ◌<◌, length, get_or, take, replicate}
+use Rattle.layout.specs.Answer.{Answer, Accepted, Refused, Surveyed}
 use Rattle.scope.specs.Survey.{survey_of}
 use Rattle.desk.specs.Asking.{asked_of}
 use Rattle.desk.specs.Splicing.{splice_of}
@@ -11,13 +9,13 @@ use Rattle.desk.specs.Splicing.{splice_of}
 
 abbrev pub with_number : ℕ → Surveyed → Surveyed
 with_number zero v = v
-with_number (suc n) v = record { answer = Refused (suc n) 0; items = v.items; starts = v.starts }
+with_number (suc n) v = record { answer = Refused (suc n) 0; items = 0; starts = replicate 9 0 }
 
 abbrev pub allowed_by : ℕ → Surveyed → Answer → Surveyed
 allowed_by m v (Accepted n) = with_number m v
 allowed_by m v (Refused n p) = v
 
--- what a survey tells, with 12 or 13 as the answer of a field that is right
+-- what a survey tells, or 12 or 13 of a field that is right
 unfoldable pub allowed_of : ℕ → List ℕ → ℕ → ℕ → Surveyed
 allowed_of cat s list item = allowed_by (asked_of cat list item) (survey_of cat s) (survey_of cat s).answer
 

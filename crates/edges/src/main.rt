@@ -4,6 +4,8 @@
 
 #![tactic(auto)]
 
+use text::Text;
+
 fn main(rt: HostRuntime) {
     list_rows_of_parts(&rt);
     list_rows_of_numbers(&rt);
@@ -107,24 +109,24 @@ fn read_worked_field(rt: &impl Print) {
 }
 
 fn ask(rt: &impl Print, line: &[u8]) {
-    let mut buf = [0u8; 4096];
-    let end = requests::answer(line, &mut buf);
+    let mut reply = Text::new();
+    requests::answer(line, &mut reply);
     say(rt, line);
     say(rt, b" -> ");
-    say(rt, &buf[..end]);
+    say(rt, reply.as_slice());
 }
 
 fn say_angle(rt: &impl Print, n: i32) {
-    let mut buf = [0u8; 4096];
-    let number = text::word(b"angle ", 0, &mut buf);
-    let arrow = text::signed(n as i64, number, &mut buf);
-    let udeg_at = text::word(b" -> ", arrow, &mut buf);
     let angle = angle::exact(n);
-    let behind = text::signed(angle.udeg, udeg_at, &mut buf);
-    let left_at = text::word(b" left ", behind, &mut buf);
-    let end = text::signed(angle.left, left_at, &mut buf);
-    let last = text::line_end(end, &mut buf);
-    say(rt, &buf[..last]);
+    let mut words = Text::new();
+    words.word(b"angle ");
+    words.signed(i64::from(n));
+    words.word(b" -> ");
+    words.signed(angle.udeg);
+    words.word(b" left ");
+    words.signed(angle.left);
+    words.line_end();
+    say(rt, words.as_slice());
 }
 
 fn say(rt: &impl Print, words: &[u8]) {

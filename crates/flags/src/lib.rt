@@ -2,7 +2,7 @@
 // Promises: each is one equation, for every indicator, item, index and number. Stands on codec's definitions and on leaves.
 #![tactic(auto)]
 
-ghost use Rattle.std.specs.Prelude.{◌≡◌, ◌-◌, ◌^◌, ◌/◌, ◌<◌, eqb, get_or};
+ghost use Rattle.std.specs.Prelude.{◌≡◌, ◌-◌, ◌^◌, ◌/◌, eqb, get_or};
 ghost use Rattle.codec.specs.Item.{is_one};
 ghost use Rattle.codec.specs.Field.{flags};
 ghost use Rattle.codec.specs.Change.{set_flag};
@@ -24,36 +24,27 @@ pub fn present(items: u8, i: usize) -> bool
     false
 }
 
-// The bit of the item with index i, below eight.
+// The bit of the item with index i, none where there is no such index.
 fn bit(i: usize) -> u8
-    requires { i < 8 }
     ensures { result ≡ 128 / 2 ^ i }
 {
-    128u8 >> (i as u8)
+    if i < 8 {
+        return 128u8 >> (i as u8);
+    }
+    0
 }
 
 // An indicator with the item of index i, and without it.
 pub fn with_item(items: u8, i: usize) -> u8
     ensures { result ≡ set_flag items i 1 }
 {
-    if i < 8 {
-        if present(items, i) {
-            return items;
-        }
-        return items + bit(i);
-    }
-    items
+    items | bit(i)
 }
 
 pub fn without_item(items: u8, i: usize) -> u8
     ensures { result ≡ set_flag items i 0 }
 {
-    if i < 8 {
-        if present(items, i) {
-            return items - bit(i);
-        }
-    }
-    items
+    items & !bit(i)
 }
 
 // Whether a number of a chain says that a subfield is there.

@@ -1,5 +1,6 @@
 -- The octets that a word writes: pairs of hex digits in either case, at most 4,096 pairs, or `-` for none.
-use Rattle.std.specs.Prelude.{Bool, true, ◌&&◌, List, [], ◌∷◌, ℕ, ◌+◌, ◌-◌, ◌*◌, ◌%◌, ltb, leb, eqb, length, get_or}
+use Rattle.std.specs.Prelude.{Bool, true, ◌&&◌, Option, List, [], ◌∷◌, ℕ, ◌+◌, ◌-◌, ◌*◌, ◌%◌, ltb, leb, eqb, length, get_or}
+use Rattle.std.specs.Bool.{then_some}
 use Rattle.codec.specs.Pick.{pick}
 
 abbrev pub between : ℕ → ℕ → ℕ → Bool
@@ -8,6 +9,10 @@ between low high o = leb low o && leb o high
 -- the value of a hex digit: `0` to `9`, `A` to `F`, `a` to `f`; 16 for any other octet
 unfoldable pub hex_digit : ℕ → ℕ
 hex_digit o = pick (between 48 57 o) (o - 48) (pick (between 65 70 o) (o - 65 + 10) (pick (between 97 102 o) (o - 97 + 10) 16))
+
+-- the digit as code gives it: None is 16
+abbrev pub digit_in : ℕ → Option ℕ
+digit_in n = then_some (ltb n 16) n
 
 unfoldable pub are_hex : List ℕ → Bool
 are_hex [] = true

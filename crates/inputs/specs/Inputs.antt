@@ -1,12 +1,10 @@
 -- As many octets as an input is told to have lie in an array of so many.
-use Rattle.std.specs.Prelude.{◌≡◌, ℕ, ◌≤◌}
+use Rattle.std.specs.Prelude.{◌≡◌, ℕ, ◌≤◌, Result, Ok, Err}
 use Rattle.std.proofs.Common.{subst}
-use Rattle.inputs.specs.declared.Input.{Input}
-use Rattle.inputs.specs.declared.Input.TheVariants.{Octets, Failed}
 
-abbrev pub Within : Input → ℕ → Type 0
-Within (Octets n) room = n ≤ room
-Within Failed room = Unit {0}
+abbrev pub Within : {E : Type 0} → Result ℕ E → ℕ → Type 0
+Within (Ok n) room = n ≤ room
+Within (Err e) room = Unit {0}
 
-pub octets_within : {r : Input} {n room : ℕ} → r ≡ Octets n → Within r room → n ≤ room
+pub octets_within : {E : Type 0} {r : Result ℕ E} {n room : ℕ} → r ≡ Ok n → Within r room → n ≤ room
 octets_within {room = room} e h = subst (λ x. Within x room) e h

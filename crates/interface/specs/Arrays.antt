@@ -4,9 +4,7 @@ use Rattle.codec.specs.Pick.{pick}
 use Rattle.codec.specs.Frame.{Outcome, refused}
 use Rattle.papers.specs.Papers.{known}
 use Rattle.layout.specs.declared.Record.{Record}
-use Rattle.layout.specs.declared.Reading.{Reading}
-use Rattle.layout.specs.declared.Answer.{Answer}
-use Rattle.layout.specs.declared.Answer.TheVariants.{Accepted, Refused}
+use Rattle.layout.specs.Answer.{Reading, Answer, Accepted, Refused}
 use Rattle.scope.specs.Writing.{write_of}
 use Rattle.interface.specs.Packed.{answer_word}
 use Rattle.papers.specs.Papers.{SLOTS}

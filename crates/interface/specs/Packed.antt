@@ -1,12 +1,9 @@
 -- The one word that every exported function answers: the refusal's number, which field is meant, the place and the length.
 use Rattle.std.specs.Prelude.{◌≡◌, List, ℕ, ◌+◌, ◌*◌, ◌^◌, ◌<◌}
 use Rattle.codec.specs.Frame.{Outcome}
-use Rattle.layout.specs.declared.Answer.{Answer}
-use Rattle.layout.specs.declared.View.{View}
-use Rattle.layout.specs.declared.Choice.{Choice}
+use Rattle.layout.specs.Answer.{Answer, View, Choice, number_of, place_of, length_of, view_number, view_place, view_length, which_number}
 use Rattle.scope.specs.Outputs.{answer_of, after}
 use Rattle.scope.specs.Rebuilding.{category_given, octets_given}
-use Rattle.layout.specs.Answer.{number_of, place_of, length_of, view_number, view_place, view_length, which_number}
 
 -- four numbers of 16 bits each, the refusal's number highest
 unfoldable pub word_of : ℕ → ℕ → ℕ → ℕ → ℕ

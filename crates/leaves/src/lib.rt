@@ -1,5 +1,7 @@
 // Small total functions on octets and numbers that the layers above share.
 // Promises: each is one equation. Stands on nothing.
+// What may not change: the theorems one_leaves_wide and one_leaves_wide64, and so for octet and less, speak of a function for each of the two widths; a trait for
+// both would have the same two bodies again.
 #![tactic(auto)]
 
 ghost use Rattle.std.specs.Prelude.{◌≡◌, ◌-◌, ◌%◌, ◌<◌, take};
@@ -8,13 +10,13 @@ ghost use Rattle.std.specs.Prelude.{◌≡◌, ◌-◌, ◌%◌, ◌<◌, take};
 pub fn wide(o: u8) -> usize
     ensures { (result ≡ o) × (result < 256) }
 {
-    o as usize
+    usize::from(o)
 }
 
 pub fn wide64(o: u8) -> u64
     ensures { (result ≡ o) × (result < 256) }
 {
-    o as u64
+    u64::from(o)
 }
 
 // The lowest octet of a number.
@@ -35,19 +37,13 @@ pub fn octet64(n: u64) -> u8
 pub fn less(a: usize, b: usize) -> usize
     ensures { result ≡ a - b }
 {
-    if b < a {
-        return a - b;
-    }
-    0
+    usize::saturating_sub(a, b)
 }
 
 pub fn less64(a: u64, b: u64) -> u64
     ensures { result ≡ a - b }
 {
-    if a <= b {
-        return 0;
-    }
-    a - b
+    u64::saturating_sub(a, b)
 }
 
 // At most so many octets in front.

@@ -3,11 +3,10 @@
 #![tactic(auto)]
 
 ghost use Rattle.std.specs.Prelude.{◌≡◌, ◌<◌};
-ghost use Rattle.codec.proofs.Laws.Arms.{Past};
-ghost use Rattle.lengths.specs.Lines.{placed_at, format_of, lengths, pieces};
+ghost use Rattle.lengths.specs.Lines.{placed_at, format_of};
 
 // The format of a line, a chain part or a subfield.
-#[derive(Clone, Copy)]
+#[derive(Clone, Copy, Default)]
 pub struct Format {
     // How many octets it has, and which bits of them are spare.
     pub octets: usize,
@@ -26,11 +25,11 @@ pub struct Format {
 
 // The table of item and subfield lengths, beside the papers: of each chain part and subfield its octets, and its mask, the spare bits in the order in which the
 // paper prints its bits, an octet's together. Behind it stand the document and section of each paper that prints it, its item, and its part or its subfield's
-// number and name. An item's chain parts come first.
+// number and name. An item's chain parts come first. The tables are statics, which a lookup reads where they stand: it builds the whole of a const first.
 #[derive(Clone, Copy)]
 struct Length(usize, u64);
 
-const LENGTHS: [Length; 46] = [
+static LENGTHS: [Length; 46] = [
     Length(1, 0b00000000), // 000 2.3 MD5 part 1
     Length(1, 0b00000001), // 000 2.3 MD5 #1 SUM
     Length(4, 0b11000000_00000000_11000000_11000000), // 000 2.3 MD5 #2 PMN
@@ -79,11 +78,12 @@ const LENGTHS: [Length; 46] = [
     Length(4, 0b11000000_00000000_11000000_00000000), // 004 2.3 TA
 ];
 
-// The same lines by their pieces, in the order of the fields of a format: pieces, runs, bits below, first slot, flag.
+// The same lines by their pieces, in the order of the fields of a format: pieces, runs, bits below, first slot, flag. They are a table of their own: a row of
+// both, its fields named, would take nine lines of this file, and a paper's rows could not be laid beside the paper.
 #[derive(Clone, Copy)]
 struct Pieces(u64, usize, u64, usize, usize);
 
-const PIECES: [Pieces; 46] = [
+static PIECES: [Pieces; 46] = [
     // document 000, 2.3 MD5
     Pieces(0x21_21_21_21_21_21_21, 7, 1, 0, 0), // part 1
     Pieces(0x01_21_21_21_21_21_21_21, 8, 0, 7, 0), // SUM
@@ -146,107 +146,22 @@ const PIECES: [Pieces; 46] = [
     Pieces(0x4E_02_4E_02, 4, 0, 0, 0),
 ];
 
-// Their rules: the tables say what the papers' data say.
-fn table_of_lengths() -> [Length; 46]
-    ensures { result ≡ lengths }
-{
-    LENGTHS
-}
-
-fn table_of_pieces() -> [Pieces; 46]
-    ensures { result ≡ pieces }
-{
-    PIECES
-}
-
-// What stands at place i of both tables, which is the place asked for.
-fn line_in(t: [Length; 46], u: [Pieces; 46], i: usize, line: usize) -> Format
-    requires { (t ≡ lengths) × (u ≡ pieces) × (i ≡ line) × (i < 46) }
-    ensures { result ≡ format_of (placed_at line) }
-{
-    let l = t[i];
-    let p = u[i];
-    Format {
-        octets: l.0,
-        spare: l.1,
-        pieces: p.0,
-        runs: p.1,
-        below: p.2,
-        first: p.3,
-        flag: p.4,
-    }
-}
-
-// Behind the last line there is an empty one.
-fn no_line(line: usize) -> Format
-    requires { Past 46 line }
-    ensures { result ≡ format_of (placed_at line) }
-{
-    Format {
-        octets: 0,
-        spare: 0,
-        pieces: 0,
-        runs: 0,
-        below: 0,
-        first: 0,
-        flag: 0,
-    }
-}
-
-// A line of the table by its number. Each place stands here as a literal, so that the table's entries are constants of the code: an array that is read at a
-// variable place is built whole at each lookup.
+// A line of the table by its number. Behind the last line there is an empty one.
 pub fn format_of(line: usize) -> Format
     ensures { result ≡ format_of (placed_at line) }
 {
-    let t = table_of_lengths();
-    let u = table_of_pieces();
-    match line {
-        0 => line_in(t, u, 0, line),
-        1 => line_in(t, u, 1, line),
-        2 => line_in(t, u, 2, line),
-        3 => line_in(t, u, 3, line),
-        4 => line_in(t, u, 4, line),
-        5 => line_in(t, u, 5, line),
-        6 => line_in(t, u, 6, line),
-        7 => line_in(t, u, 7, line),
-        8 => line_in(t, u, 8, line),
-        9 => line_in(t, u, 9, line),
-        10 => line_in(t, u, 10, line),
-        11 => line_in(t, u, 11, line),
-        12 => line_in(t, u, 12, line),
-        13 => line_in(t, u, 13, line),
-        14 => line_in(t, u, 14, line),
-        15 => line_in(t, u, 15, line),
-        16 => line_in(t, u, 16, line),
-        17 => line_in(t, u, 17, line),
-        18 => line_in(t, u, 18, line),
-        19 => line_in(t, u, 19, line),
-        20 => line_in(t, u, 20, line),
-        21 => line_in(t, u, 21, line),
-        22 => line_in(t, u, 22, line),
-        23 => line_in(t, u, 23, line),
-        24 => line_in(t, u, 24, line),
-        25 => line_in(t, u, 25, line),
-        26 => line_in(t, u, 26, line),
-        27 => line_in(t, u, 27, line),
-        28 => line_in(t, u, 28, line),
-        29 => line_in(t, u, 29, line),
-        30 => line_in(t, u, 30, line),
-        31 => line_in(t, u, 31, line),
-        32 => line_in(t, u, 32, line),
-        33 => line_in(t, u, 33, line),
-        34 => line_in(t, u, 34, line),
-        35 => line_in(t, u, 35, line),
-        36 => line_in(t, u, 36, line),
-        37 => line_in(t, u, 37, line),
-        38 => line_in(t, u, 38, line),
-        39 => line_in(t, u, 39, line),
-        40 => line_in(t, u, 40, line),
-        41 => line_in(t, u, 41, line),
-        42 => line_in(t, u, 42, line),
-        43 => line_in(t, u, 43, line),
-        44 => line_in(t, u, 44, line),
-        45 => line_in(t, u, 45, line),
-        _ => no_line(line),
+    if line < LENGTHS.len() {
+        let Length(octets, spare) = LENGTHS[line];
+        let Pieces(pieces, runs, below, first, flag) = PIECES[line];
+        return Format {
+            octets,
+            spare,
+            pieces,
+            runs,
+            below,
+            first,
+            flag,
+        };
     }
+    Format::default()
 }

@@ -1,7 +1,6 @@
 -- What `join` does to the octets that are held and to their array.
-use Rattle.std.specs.Prelude.{◌≡◌, true, false, List, [], ◌∷◌, ℕ, ◌+◌, ltb, eqb, length, drop, set}
+use Rattle.std.specs.Prelude.{◌≡◌, Bool, true, false, Option, None, Some, List, [], ◌∷◌, ℕ, ◌+◌, ltb, eqb, length, drop, set}
 use Rattle.codec.specs.Pick.{pick}
-use Rattle.lines.specs.declared.Joined.{Joined}
 
 -- an octet behind n others in an array of so much room: how many there are then, and the array
 unfoldable pub more : ℕ → ℕ → ℕ
@@ -12,6 +11,12 @@ put_in room line n o = pick (ltb n room) (set line n o) line
 
 abbrev pub Keeps : List ℕ → ℕ → ℕ → ℕ → List ℕ → Type 0
 Keeps line n o r line' = (r ≡ more (length line) n) × (line' ≡ put_in (length line) line n o)
+
+-- the place behind the octets that were taken, how many octets are held of the line, and whether its line feed was met
+pub record Joined : Type 0 where
+  pub at : ℕ
+  pub held : ℕ
+  pub ended : Bool
 
 -- the octets s from place at on, n octets being held
 unfoldable pub join_of : ℕ → List ℕ → ℕ → ℕ → Joined
@@ -26,3 +31,8 @@ line_after room (o ∷ s) n line = pick (eqb o 10) line (line_after room s (more
 
 abbrev pub Joins : List ℕ → ℕ → ℕ → List ℕ → Joined → List ℕ → Type 0
 Joins octets from n line r line' = (r ≡ join_of (length line) (drop from octets) n from) × (line' ≡ line_after (length line) (drop from octets) n line)
+
+-- what `join` says of so many octets, of which so many are held then: where the line ended, or that all are taken
+abbrev pub joined : ℕ → ℕ → Option ℕ → Joined
+joined all held None = record { at = all; held = held; ended = false }
+joined all held (Some at) = record { at = at; held = held; ended = true }

@@ -3,50 +3,42 @@
 // reads. Stands on nothing.
 #![tactic(auto)]
 
-ghost use Rattle.lines.specs.Joining.{Keeps, Joins};
+ghost use Rattle.std.specs.Prelude.{◌≡◌, length};
+ghost use Rattle.lines.specs.Joining.{Keeps, Joins, joined};
 
 // The room for a line, one octet more than a line of the protocol may have: one that is too long is held so far, and so is seen to be too long.
 pub const ROOM: usize = 16385;
 
-// The place behind the octets that were taken, how many octets are held of the line, and whether its line feed was met.
-#[derive(Clone, Copy)]
-pub struct Joined {
-    pub at: usize,
+// A line so far: the array that it is held in, and how many octets of it are held there.
+#[derive(Drop)]
+pub struct Line<'a> {
+    pub octets: &'a mut [u8],
     pub held: usize,
-    pub ended: bool,
 }
 
-// An octet behind those that are held; one that has no room in the line is left out.
-fn keep(o: u8, held: usize, line: &mut [u8]) -> usize
-    ensures { Keeps line.old held o result line.new }
-{
-    if held < line.len() {
-        line[held] = o;
-        return held + 1;
-    }
-    held
-}
-
-// Goes on with a line from a place of the octets on, up to its line feed or to the end of the octets.
-pub fn join(octets: &[u8], from: usize, held: usize, line: &mut [u8]) -> Joined
-    ensures { Joins octets.now from held line.old result line.new }
-{
-    let mut at = from;
-    let mut so_far = held;
-    while at < octets.len() {
-        if octets[at] == b'\n' {
-            return Joined {
-                at: at + 1,
-                held: so_far,
-                ended: true,
-            };
+impl Line<'_> {
+    // An octet behind those that are held; one that has no room is left out.
+    fn keep(&mut self, o: u8)
+        ensures same { self.new.octets.ghost_name ≡ self.old.octets.ghost_name }
+        ensures kept { Keeps self.old.octets.now self.old.held o self.new.held self.new.octets.now }
+    {
+        if self.held < self.octets.len() {
+            self.octets[self.held] = o;
+            self.held += 1;
         }
-        so_far = keep(octets[at], so_far, &mut *line);
-        at += 1;
     }
-    Joined {
-        at: at,
-        held: so_far,
-        ended: false,
+
+    // Goes on with the line up to its line feed, or to the end of the octets; how many octets are taken where the line ended.
+    pub fn join(&mut self, octets: &[u8]) -> Option<usize>
+        ensures same { self.new.octets.ghost_name ≡ self.old.octets.ghost_name }
+        ensures joined { Joins octets.now 0 self.old.held self.old.octets.now (joined (length octets.now) self.new.held result) self.new.octets.now }
+    {
+        for (i, o) in octets.iter().enumerate() {
+            if *o == b'\n' {
+                return Some(i + 1);
+            }
+            self.keep(*o);
+        }
+        None
     }
 }

@@ -8,9 +8,6 @@ ghost use Rattle.std.specs.Prelude.{◌≡◌, ◌≤◌, length, take};
 ghost use Rattle.scope.specs.Sheet.{sheet_of};
 ghost use Rattle.longest.specs.Longest.{longest_sheet};
 
-use inputs::Input;
-use layout::Answer;
-
 // The octets of the input that count: a category, and a field as long as LEN can say.
 const MOST: usize = 256;
 
@@ -19,25 +16,21 @@ const ROOM: usize = 2048;
 
 fn main(rt: HostRuntime) {
     let mut input = [0u8; MOST];
-    let Input::Octets(n) = inputs::read_in(&mut rt.stdin(), &mut input) else {
+    let Ok(n) = inputs::read_in(&mut rt.stdin(), &mut input) else {
         let _ = rt.eprintln("listing: standard input can't be read");
         return;
     };
     let mut output = [0u8; ROOM];
-    let end = listed(&input[..n], &mut output);
-    if rt.write_all(&output[..end]).is_err() {
+    if rt.write_all(listed(&input[..n], &mut output)).is_err() {
         let _ = rt.eprintln("listing: the sheet can't be written");
     }
 }
 
-// The sheet into the front of the output; its length. With so much room it is never refused.
-fn listed(input: &[u8], output: &mut [u8]) -> usize
+// The sheet, in the front of the output. With so much room it is never refused.
+fn listed<'a>(input: &[u8], output: &'a mut [u8]) -> &'a [u8]
     requires { longest_sheet ≤ length output.old }
-    ensures { (result ≤ length output.new) × (take result output.new ≡ sheet_of input.now) }
+    ensures { result.now ≡ sheet_of input.now }
 {
-    let answer = sheet::sheet(input, &mut *output);
-    match answer {
-        Answer::Accepted(length) => length,
-        Answer::Refused(_, _) => 0,
-    }
+    let len = sheet::sheet(input, output).unwrap();
+    &output[..len]
 }

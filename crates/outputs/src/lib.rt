@@ -3,18 +3,19 @@
 #![tactic(auto)]
 
 ghost use Rattle.scope.specs.Outputs.{with_room, Leaves};
+ghost use Rattle.layout.specs.Answer.{by_number};
 ghost use Rattle.std.specs.Prelude.{length};
 
-use layout::Answer;
+use layout::{Answer, Reason};
 
 // Octets into the front of an output, or 11: the last step of every operation that writes a field.
 pub fn deliver(octets: &[u8], out: &mut [u8]) -> Answer
-    ensures { Leaves (with_room (length out.old) octets.now) out.old result out.new }
+    ensures { Leaves (with_room (length out.old) octets.now) out.old (by_number result) out.new }
 {
     let n = octets.len();
     if n <= out.len() {
         out[..n].copy_from_slice(octets);
-        return Answer::Accepted(n);
+        return Ok(n);
     }
-    Answer::Refused(11, 0)
+    Err(Reason::Room.at(0))
 }

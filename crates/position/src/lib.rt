@@ -5,7 +5,10 @@
 ghost use Rattle.std.specs.Prelude.{◌++◌};
 ghost use Rattle.papers.specs.Names.{angle, text};
 ghost use Rattle.scope.specs.Sheet.{key_line, signed_decimal, number_text};
-ghost use Rattle.text.specs.Typing.{Types};
+ghost use Rattle.text.specs.Typed.{Typed};
+
+use angle::Angle;
+use text::Text;
 
 // Latitude and longitude, numbers of 24 bits.
 #[derive(Clone, Copy)]
@@ -14,38 +17,26 @@ pub struct Position {
     pub lon: i32,
 }
 
-// A line whose key is a name, a further name and a last one.
-fn line(name: &[u8], more: &[u8], last: &[u8], z: i64, at: usize, buf: &mut [u8; 4096]) -> usize
-    ensures { Types (key_line ((name.now ++ more.now) ++ last.now) (signed_decimal z)) buf.old at buf.new result }
+// A number, its millionths and its leftover, under a name and a further one.
+fn coordinate(name: &[u8], more: &[u8], n: i32, exact: Angle, sheet: &mut Text)
+    ensures { Typed (key_line (name.now ++ more.now) (signed_decimal n) ++ (key_line ((name.now ++ more.now) ++ text ".udeg") (signed_decimal exact.udeg) ++ key_line ((name.now ++ more.now) ++ text ".left") (signed_decimal exact.left))) sheet.old sheet.new }
 {
-    let middle = text::word(name, at, &mut *buf);
-    let behind = text::word(more, middle, &mut *buf);
-    text::signed_pair(last, z, behind, &mut *buf)
-}
-
-// A number, millionths and leftover under one key.
-fn coordinate(
-    name: &[u8],
-    more: &[u8],
-    n: i32,
-    udeg: i64,
-    left: i64,
-    at: usize,
-    buf: &mut [u8; 4096],
-) -> usize
-    ensures { Types (key_line (name.now ++ more.now) (signed_decimal n) ++ (key_line ((name.now ++ more.now) ++ text ".udeg") (signed_decimal udeg) ++ key_line ((name.now ++ more.now) ++ text ".left") (signed_decimal left))) buf.old at buf.new result }
-{
-    let udeg_at = line(name, more, b"", n as i64, at, &mut *buf);
-    let left_at = line(name, more, b".udeg", udeg, udeg_at, &mut *buf);
-    line(name, more, b".left", left, left_at, &mut *buf)
+    sheet.word(name);
+    sheet.pair(more, n);
+    sheet.word(name);
+    sheet.word(more);
+    sheet.pair(b".udeg", exact.udeg);
+    sheet.word(name);
+    sheet.word(more);
+    sheet.pair(b".left", exact.left);
 }
 
 // The three lines of the latitude, then those of the longitude, under the item's and the subfield's name.
-pub fn lines(name: &[u8], p: Position, at: usize, buf: &mut [u8; 4096]) -> usize
-    ensures { Types (number_text (angle (name.now ++ text ".LAT")) p.lat ++ number_text (angle (name.now ++ text ".LON")) p.lon) buf.old at buf.new result }
+pub fn lines(name: &[u8], p: Position, sheet: &mut Text)
+    ensures { Typed (number_text (angle (name.now ++ text ".LAT")) p.lat ++ number_text (angle (name.now ++ text ".LON")) p.lon) sheet.old sheet.new }
 {
     let lat = angle::exact(p.lat);
-    let next = coordinate(name, b".LAT", p.lat, lat.udeg, lat.left, at, &mut *buf);
     let lon = angle::exact(p.lon);
-    coordinate(name, b".LON", p.lon, lon.udeg, lon.left, next, &mut *buf)
+    coordinate(name, b".LAT", p.lat, lat, sheet);
+    coordinate(name, b".LON", p.lon, lon, sheet);
 }

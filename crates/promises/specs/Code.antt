@@ -3,13 +3,13 @@
 --   runs   its own compiled function meets its contract: from any memory with the arguments in it the run returns,
 --          without a fault (what `rt check` proves of it)
 --   asks   the contract asks nothing of the arguments
---   gives  what the contract promises of the result is the program's result
+--   gives  what the contract promises of the result is the program's result, by the numbers that 01 gives an answer
 -- The arguments are a list: args.0 is the first, args.1.0 the second. One that is a slice is a reference, with the
 -- octets now behind it; `ends` are the arguments when the operation returns.
 use Rattle.std.specs.Prelude.{◌≡◌, List, ℕ}
 use Rattle.codec.specs.Change.{remove, put}
 use Rattle.codec.specs.Frame.{Outcome}
-use Rattle.layout.specs.declared.Answer.{Answer}
+use Rattle.layout.specs.Answer.{Answer, by_number, reading_by_number, view_by_number, choice_by_number, rebuilt_by_number}
 use Rattle.scope.specs.Outputs.{Leaves}
 use Rattle.views.specs.Parts.{part_at, chosen_at}
 use Rattle.reader.proofs.read.Statement as read
@@ -64,36 +64,36 @@ Handed a out x = ◌≡◌ {A = Answer × List ℕ} (a, out) x
 
 pub record Computes (p : Program) : Type 2 where
   pub read : Runs read.statement read-claims.Pre read-claims.Post
-      (λ args r ends. r ≡ p.read args.0 args.1.0.now)
+      (λ args r ends. reading_by_number r ≡ p.read args.0 args.1.0.now)
   pub write : Runs write.statement write-claims.Pre write-claims.Post
-      (λ args a ends. Handed a ends.1.0.now (p.write args.0 args.1.0.now))
+      (λ args a ends. Handed (by_number a) ends.1.0.now (p.write args.0 args.1.0.now))
   pub removes : Runs removal.statement remove-claims.Pre remove-claims.Post
-      (λ args a ends. Handed a ends.1.1.1.1.0.now
+      (λ args a ends. Handed (by_number a) ends.1.1.1.1.0.now
       (p.edit args.0 args.1.0.now args.1.1.0 args.1.1.1.0 remove args.1.1.1.1.0.now))
   pub replaces : Runs replace.statement replace-claims.Pre replace-claims.Post
-      (λ args a ends. Handed a ends.1.1.1.1.1.0.now
+      (λ args a ends. Handed (by_number a) ends.1.1.1.1.1.0.now
       (p.edit args.0 args.1.0.now args.1.1.0 args.1.1.1.0 (put args.1.1.1.1.0.now)
       args.1.1.1.1.1.0.now))
   pub copies : Runs copy.statement copy-claims.Pre copy-claims.Post
-      (λ args a ends. Handed a ends.1.1.1.0.now
+      (λ args a ends. Handed (by_number a) ends.1.1.1.0.now
       (p.copy args.0 args.1.0.now args.1.1.0 args.1.1.1.0.now))
   -- the part is the very part of the lent field, in memory too
   pub view_answer : Runs view_answer.statement view-answer-claims.Pre view-answer-claims.Post
-      (λ args v ends. v ≡ p.view args.0 args.1.0.now args.1.1.0)
+      (λ args v ends. view_by_number v ≡ p.view args.0 args.1.0.now args.1.1.0)
   pub view : Runs view.statement view-claims.Pre view-claims.Post
       (λ args x ends. (x.now ≡ p.part args.0 args.1.0.now args.1.1.0)
       × (x.ref_ptr ≡ part_at args.1.0.ref_ptr (p.view args.0 args.1.0.now args.1.1.0)))
   pub choose_answer : Runs choose_answer.statement choose-answer-claims.Pre choose-answer-claims.Post
-      (λ args c ends. c ≡ p.choose args.0 args.1.0.now args.1.1.0.now args.1.1.1.0)
+      (λ args c ends. choice_by_number c ≡ p.choose args.0 args.1.0.now args.1.1.0.now args.1.1.1.0)
   pub choose : Runs choose.statement choose-claims.Pre choose-claims.Post
       (λ args x ends. (x.now ≡ p.chosen args.0 args.1.0.now args.1.1.0.now args.1.1.1.0)
       × (x.ref_ptr ≡ chosen_at args.1.0.ref_ptr args.1.1.0.ref_ptr
       (p.choose args.0 args.1.0.now args.1.1.0.now args.1.1.1.0)))
   pub sheet : Runs sheet.statement sheet-claims.Pre sheet-claims.Post
-      (λ args a ends. Handed a ends.1.0.now (p.sheet args.0.now args.1.0.now))
+      (λ args a ends. Handed (by_number a) ends.1.0.now (p.sheet args.0.now args.1.0.now))
   pub rebuild : Runs rebuild.statement rebuild-claims.Pre rebuild-claims.Post
-      (λ args r ends. (r.cat ≡ (p.rebuild args.0.now args.1.0.now).0)
-      × Handed r.answer ends.1.0.now (p.rebuild args.0.now args.1.0.now).1)
+      (λ args r ends. ((rebuilt_by_number r).cat ≡ (p.rebuild args.0.now args.1.0.now).0)
+      × Handed (rebuilt_by_number r).answer ends.1.0.now (p.rebuild args.0.now args.1.0.now).1)
   pub exact : Runs exact.statement exact-claims.Pre exact-claims.Post
       (λ args a ends. (a.udeg ≡ p.udeg args.0) × (a.left ≡ p.left args.0))
 

@@ -21,7 +21,7 @@ use Rattle.papers.specs.Cat007.{cat007}
 use Rattle.papers.specs.Papers.{paper_of, SLOTS, all_slots}
 use Rattle.papers.proofs.Laws.Papers.{by_paper, few_slots}
 use Rattle.layout.specs.declared.Record.{Record}
-use Rattle.layout.specs.declared.Answer.TheVariants.{Accepted}
+use Rattle.layout.specs.Answer.{Accepted}
 use Rattle.layout.specs.Record.{all_parts, all_numbers, flatten}
 use Rattle.layout.specs.Laws.Record.{length_numbers}
 use Rattle.scope.specs.Reading.{read_of}

@@ -1,14 +1,12 @@
 -- The form of a request is data (docs/PROTOCOL.md): its name and the kinds of its words. One definition judges every line by it.
-use Rattle.std.specs.Prelude.{Bool, false, List, [], ◌∷◌, ◌++◌, ℕ, ◌+◌, ltb, eqb, length, drop, replicate}
+use Rattle.std.specs.Prelude.{Bool, false, Option, List, [], ◌∷◌, ◌++◌, ℕ, ◌+◌, ltb, eqb, length, drop, replicate}
+use Rattle.std.specs.Bool.{then_some}
 use Rattle.codec.specs.Pick.{pick}
 use Rattle.papers.specs.Names.{text}
 use Rattle.papers.specs.Papers.{SLOTS}
 use Rattle.words.specs.Numbers.{is_number, is_signed}
 use Rattle.hex_words.specs.Octets.{is_octets, is_list}
 use Rattle.protocol.specs.Line.{words_of, nth, same, places_from}
-use Rattle.protocol.specs.declared.Judged.{Judged}
-use Rattle.protocol.specs.declared.Judged.TheVariants.{Asks, Wrong}
-use Rattle.protocol.specs.declared.Parsed.{Parsed}
 
 -- the kinds of words, each by a letter
 unfoldable pub fits : ℕ → List ℕ → Bool
@@ -53,6 +51,15 @@ first_wrong [] (w ∷ ws) n = n
 first_wrong (k ∷ ks) [] n = n
 first_wrong (k ∷ ks) (w ∷ ws) n = pick (fits k w) (first_wrong ks ws (n + 1)) n
 
+-- the number of the word as code gives it: None is 0
+abbrev pub wrong_word : ℕ → Option ℕ
+wrong_word n = then_some (ltb 0 n) n
+
+-- which request a line is, by its number in the forms, or the number, from 1, of the first word that is wrong; 0 for a line that is too long
+pub data Judged : Type 0 where
+  Asks : ℕ → Judged
+  Wrong : ℕ → Judged
+
 -- a request by its number, from 0, unless a word is wrong
 unfoldable pub judged_as : ℕ → ℕ → Judged
 judged_as q wrong = pick (eqb wrong 0) (Asks q) (Wrong wrong)
@@ -63,8 +70,13 @@ unfolding judged_as first_wrong
 judged_by q [] ws = Wrong 1
 judged_by q (f ∷ fs) ws = pick (same (nth ws 0) f.name) (judged_as q (first_wrong f.kinds (drop 1 ws) 2)) (judged_by (q + 1) fs ws)
 
+-- and where the line's first words start
+pub record Parse : Type 0 where
+  pub judged : Judged
+  pub starts : List ℕ
+
 -- a line: which request it is, or the number of the first word that is wrong, and where its first ten words start. One of more than 16,384 octets is not looked at
-unfoldable pub parse_of : List ℕ → Parsed
+unfoldable pub parse_of : List ℕ → Parse
 unfolding forms judged_by places_from
 parse_of line =
     pick (ltb 16_384 (length line))

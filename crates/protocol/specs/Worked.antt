@@ -7,9 +7,7 @@ use Rattle.text.specs.Laws.Decimals.{are_digits}
 use Rattle.words.specs.Numbers.{leads, goes_on, is_number, is_signed}
 use Rattle.hex_words.specs.Octets.{hex_digit, are_hex, is_octets, is_list}
 use Rattle.protocol.specs.Line.{glued, words_of, same}
-use Rattle.protocol.specs.Forms.{fits, forms, first_wrong, judged_as, judged_by, parse_of}
-use Rattle.protocol.specs.declared.Judged.{Judged}
-use Rattle.protocol.specs.declared.Judged.TheVariants.{Asks, Wrong}
+use Rattle.protocol.specs.Forms.{fits, forms, first_wrong, judged_as, judged_by, parse_of, Judged, Asks, Wrong}
 
 pub record Worked : Type 0 where
   pub line : String

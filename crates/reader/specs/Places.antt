@@ -5,8 +5,10 @@ use Rattle.codec.specs.Codec.{Res, got, bad}
 use Rattle.codec.specs.Line.{Held}
 use Rattle.codec.specs.Field.{first_flag, next_flags}
 use Rattle.codec.specs.Frame.{Outcome, accepted, refused}
-use Rattle.layout.specs.declared.Answer.TheVariants.{Accepted, Refused}
-use Rattle.layout.specs.declared.Surveyed.{Surveyed}
+use Rattle.layout.specs.declared.Reason.{Reason}
+use Rattle.layout.specs.declared.Reason.TheVariants.{Cut, Spare, Chain, Range}
+use Rattle.layout.specs.declared.Refusal.{Refusal}
+use Rattle.layout.specs.Answer.{Accepted, Refused, Surveyed, reason_number}
 use Rattle.reader.specs.declared.places.Places.{Places}
 use Rattle.reader.specs.Rows.{place_run, Found}
 use Rattle.reader.specs.Seen.{Ends}
@@ -43,8 +45,15 @@ abbrev pub surveyed_by : ℕ → ℕ → ℕ → Outcome Found → Surveyed
 surveyed_by n len ind (accepted f) = record { answer = Accepted len; items = ind; starts = (2 ∷ f.1) ++ replicate (8 - n) 0 }
 surveyed_by n len ind (refused e p) = unplaced_of e p
 
--- as the code has it, by the row's step
+-- the refusal that a step is, as the code has it: an item is refused by 5, 6, 7 or 8
+abbrev pub item_reason : ℕ → Reason
+item_reason n = pick (eqb n 5) Cut (pick (eqb n 6) Spare (pick (eqb n 7) Chain Range))
+
+abbrev pub refusal_of : ℕ → Refusal
+refusal_of r = record { reason = item_reason (r / 65_536); place = r % 65_536 }
+
+-- and the survey by the row's step
 unfoldable pub closed_of : Places → ℕ → ℕ → Surveyed
 closed_of r ind len =
-    pick (leb 65_536 r.0) (unplaced_of (r.0 / 65_536 % 256) (r.0 % 65_536))
+    pick (leb 65_536 r.0) (unplaced_of (reason_number (refusal_of r.0).reason) (refusal_of r.0).place)
     (pick (eqb r.0 len) (record { answer = Accepted r.0; items = ind; starts = r.1 }) (unplaced_of 9 r.0))

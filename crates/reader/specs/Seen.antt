@@ -9,7 +9,7 @@ code_of (bad e p) = e * 65_536 + p
 
 abbrev pub Coded : {A : Type 0} → Res A → Type 0
 Coded (got a n) = n < 65_536
-Coded (bad e p) = (1 ≤ e) × (e < 256) × (p < 65_536)
+Coded (bad e p) = (5 ≤ e) × (e ≤ 8) × (p < 65_536)
 
 pub record Ends {A : Type 0} (x : Res A) (r : ℕ) : Type 0 where
   pub is : r ≡ code_of x
@@ -21,6 +21,12 @@ flag_at o i = eqb (get_or (flags o) i 0) 1
 
 abbrev pub goes_on : List ℕ → ℕ → Bool
 goes_on xs at = eqb (get_or xs (at - 1) 0 % 2) 1
+
+-- what gives P is called behind a step a, if it is there; a refusal is handed on
+pub record Asked (t : Bool) (P : ℕ → Type 0) (a r : ℕ) : Type 0 where
+  pub stops : 65_536 ≤ a → r ≡ a
+  pub absent : a < 65_536 → t ≡ false → r ≡ a
+  pub there : a < 65_536 → t ≡ true → P r
 
 -- x is read behind a step a, if it is there; a refusal is handed on
 pub record Went {A : Type 0} (t : Bool) (x : Res A) (a r : ℕ) : Type 0 where

@@ -1,5 +1,5 @@
 -- The taking of numbers: what the slots hold after it, where the reading of the octets found something.
-use Rattle.std.specs.Prelude.{◌≡◌, Bool, true, false, List, ◌∷◌, ◌++◌, ℕ, ◌+◌, ◌-◌, ◌≤◌, T, ℤ, length, replicate}
+use Rattle.std.specs.Prelude.{◌≡◌, Option, Some, None, Bool, true, false, List, ◌∷◌, ◌++◌, ℕ, ◌+◌, ◌-◌, ◌≤◌, T, ℤ, length, replicate}
 use Rattle.std.proofs.lemmas.List.Edits.{sets}
 use Rattle.codec.specs.Pick.{pick}
 use Rattle.codec.specs.Codec.{Res, got, bad, opt}
@@ -17,6 +17,19 @@ use Rattle.reader.specs.Seen.{goes_on}
 abbrev pub is_got : {A : Type 0} → Res A → Bool
 is_got (got a n) = true
 is_got (bad e p) = false
+
+-- where an item begins, if it is there
+abbrev pub start_of : Bool → ℕ → Option ℕ
+start_of true at = Some at
+start_of false at = None
+
+abbrev pub is_there : Option ℕ → Bool
+is_there (Some at) = true
+is_there None = false
+
+abbrev pub place : Option ℕ → ℕ
+place (Some at) = at
+place None = 0
 
 -- one of the items that some paper has, if it is there, from a place on
 unfoldable pub opt_run : ℕ → Bool → List ℕ → ℕ → Res Held

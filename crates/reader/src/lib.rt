@@ -5,13 +5,14 @@
 // nothing. Stands on lengths, shapes and spots.
 #![tactic(auto)]
 
-ghost use Rattle.std.specs.Prelude.{◌≡◌, true, ◌<◌, pos, length, replicate};
+ghost use Rattle.std.specs.Prelude.{◌≡◌, true, ◌<◌, length};
 ghost use Rattle.papers.specs.Papers.{known, items_of};
 ghost use Rattle.scope.specs.Desk.{item_is};
 ghost use Rattle.scope.specs.Reading.{read_of, ReadsInto};
 ghost use Rattle.scope.specs.Survey.{survey_of};
 ghost use Rattle.reader.specs.Fields.{items_in};
-ghost use Rattle.reader.specs.Places.{unplaced_of, closed_of, surveyed_by};
+ghost use Rattle.layout.specs.Answer.{by_number, reading_by_number, survey_by_number};
+ghost use Rattle.reader.specs.Places.{refusal_of, closed_of, surveyed_by};
 
 mod lines;
 mod numbers;
@@ -19,71 +20,73 @@ mod places;
 mod rows;
 mod taking;
 
-use layout::{Answer, Reading, Record, SLOTS, Surveyed};
+use layout::{Answer, Reading, Reason, Record, Refusal, SLOTS, Survey};
 use lines::BAD;
 use places::Places;
 
-// No place, for a refusal.
-fn unplaced(number: u8, place: usize) -> Surveyed
-    ensures { result ≡ unplaced_of number place }
+// The refusal that a step is: an item is refused for one of four reasons.
+fn refusal(step: usize) -> Refusal
+    ensures { result ≡ refusal_of step }
 {
-    Surveyed {
-        answer: Answer::Refused(number, place),
-        items: 0,
-        starts: [0u8; 9],
-    }
+    let reason = match step / BAD {
+        5 => Reason::Cut,
+        6 => Reason::Spare,
+        7 => Reason::Chain,
+        _ => Reason::Range,
+    };
+    reason.at(step % BAD)
 }
 
 // The step of a row as the survey of a field of len octets: nothing may be left behind its items.
-fn closed(row: Places, ind: u8, len: usize) -> Surveyed
-    ensures { result ≡ closed_of row ind len }
+fn closed(row: Places, ind: u8, len: usize) -> Result<Survey, Refusal>
+    ensures { survey_by_number result ≡ closed_of row ind len }
 {
-    let a = row.0;
-    if BAD <= a {
-        return unplaced(leaves::octet(a / BAD), a % BAD);
+    let end = row.0;
+    if BAD <= end {
+        return Err(refusal(end));
     }
-    if a == len {
-        let starts = row.1;
-        return Surveyed {
-            answer: Answer::Accepted(a),
-            items: ind,
-            starts: starts,
-        };
+    if end != len {
+        return Err(Reason::Left.at(end));
     }
-    unplaced(9, a)
+    let starts = row.1;
+    Ok(Survey {
+        len: end,
+        items: ind,
+        starts: starts,
+    })
 }
 
 // The items of a field that ends with its slice, and that nothing is left behind them.
-fn items(s: &[u8], cat: u8, ind: u8) -> Surveyed
+fn items(s: &[u8], cat: u8, ind: u8) -> Result<Survey, Refusal>
     requires { (known cat ≡ true) × (length s.now < 256) }
-    ensures { result ≡ surveyed_by (items_of cat) (length s.now) ind (items_in cat ind s.now) }
+    ensures { survey_by_number result ≡ surveyed_by (items_of cat) (length s.now) ind (items_in cat ind s.now) }
 {
     if ind & layout::spare_of(cat) == 0 {
         let row = places::row(s, cat, ind);
         return closed(row, ind, s.len());
     }
-    unplaced(4, 1)
+    Err(Reason::Indicator.at(1))
 }
 
 // Where the items of a field stand: every check of the reader, in 01's order.
-pub fn survey(cat: u8, field: &[u8]) -> Surveyed
-    ensures { result ≡ survey_of cat field.now }
+pub fn survey(cat: u8, field: &[u8]) -> Result<Survey, Refusal>
+    ensures { survey_by_number result ≡ survey_of cat field.now }
 {
     if layout::is_known(cat) {
         if field.len() == 0 {
-            return unplaced(2, 0);
+            return Err(Reason::Short.at(0));
         }
         let len = leaves::wide(field[0]);
         if len < 2 {
-            return unplaced(3, 0);
+            return Err(Reason::Len.at(0));
         }
         if field.len() < len {
-            return unplaced(2, 0);
+            return Err(Reason::Short.at(0));
         }
         let ind = field[1];
         return items(&field[..len], cat, ind);
     }
-    unplaced(1, 0)
+    Err(Reason::Category.at(0))
 }
 
 // Whether octets, from 1 to 253, are right for the item of index i: LEN, an indicator with that one bit and these octets are a field.
@@ -106,49 +109,39 @@ pub fn is_item(cat: u8, i: usize, octets: &[u8]) -> bool
     false
 }
 
-fn clear(numbers: &mut [i32])
-    ensures { numbers.new ≡ replicate (length numbers.old) (pos 0) }
-{
-    let mut i: usize = 0;
-    while i < numbers.len() {
-        numbers[i] = 0;
-        i += 1;
-    }
-}
-
 // A field of a category, whatever follows it, into lent slots: the parts of each item and every number.
 pub fn read_into(cat: u8, field: &[u8], parts: &mut [u8; 8], numbers: &mut [i32]) -> Answer
-    ensures { ReadsInto (read_of cat field.now) parts.old numbers.old result parts.new numbers.new }
+    ensures { ReadsInto (read_of cat field.now) parts.old numbers.old (by_number result) parts.new numbers.new }
 {
-    let found = survey(cat, field);
-    let a = found.answer;
-    let Answer::Accepted(len) = a else {
-        return a;
-    };
-    if numbers.len() == SLOTS {
-        clear(&mut *numbers);
-        let starts = found.starts;
-        *parts = rows::row(&field[..len], cat, found.items, starts, &mut *numbers);
-        return a;
+    let found = survey(cat, field)?;
+    if numbers.len() == SLOTS
+        && let Some(slots) = numbers.first_chunk_mut::<SLOTS>()
+    {
+        slots.fill(0);
+        *parts = rows::row(&field[..found.len], cat, &found, slots);
+        return Ok(found.len);
     }
-    Answer::Refused(11, 0)
+    Err(Reason::Room.at(0))
 }
 
 // A field of a category, whatever follows it.
 pub fn read(cat: u8, field: &[u8]) -> Reading
-    ensures { result ≡ read_of cat field.now }
+    ensures { reading_by_number result ≡ read_of cat field.now }
 {
     let mut numbers = [0i32; SLOTS];
     let mut parts = [0u8; 8];
-    let a = read_into(cat, field, &mut parts, &mut numbers[..]);
-    let Answer::Accepted(_) = a else {
-        let z = Record {
+    let answer = read_into(cat, field, &mut parts, &mut numbers[..]);
+    let Ok(_) = answer else {
+        let zeros = Record {
             cat: 0,
             items: 0,
             parts: [0u8; 8],
             numbers: [0i32; SLOTS],
         };
-        return Reading { answer: a, kept: z };
+        return Reading {
+            answer: answer,
+            kept: zeros,
+        };
     };
     let kept = Record {
         cat: cat,
@@ -157,7 +150,7 @@ pub fn read(cat: u8, field: &[u8]) -> Reading
         numbers: numbers,
     };
     Reading {
-        answer: a,
+        answer: answer,
         kept: kept,
     }
 }

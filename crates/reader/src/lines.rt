@@ -4,13 +4,25 @@ ghost use Rattle.std.specs.Prelude.{◌≡◌, ◌+◌, ◌-◌, ◌*◌, ◌^�
 ghost use Rattle.codec.specs.Signed.{to_signed};
 ghost use Rattle.codec.specs.Radix.{join, eights};
 ghost use Rattle.codec.specs.Line.{to_num, in_limits};
+ghost use Rattle.layout.specs.Answer.{reason_number};
 ghost use Rattle.lengths.specs.Lines.{kind_of, pieces_from, narrow};
-ghost use Rattle.reader.specs.Numbers.{inside, nums_at, piece_fits};
+ghost use Rattle.reader.specs.Numbers.{nums_at, piece_fits};
 ghost use Rattle.reader.specs.Seen.{Ends};
 ghost use Rattle.reader.specs.Steps.{line_run};
 
+use layout::Reason;
+
 // In a step that is one number: a refusal's number counts so much, and its place is below.
 pub const BAD: usize = 65536;
+
+// A refusal as a step.
+#[inline(always)]
+pub fn refused(reason: Reason, at: usize) -> usize
+    requires { at < 65_536 }
+    ensures { result ≡ reason_number reason * 65_536 + at }
+{
+    usize::from(u8::from(reason)) * BAD + at
+}
 
 // k octets from a place on, as one number.
 pub fn octets(s: &[u8], at: usize, k: usize) -> u64
@@ -18,10 +30,8 @@ pub fn octets(s: &[u8], at: usize, k: usize) -> u64
     ensures { (result ≡ join (eights k) (take k (drop at s.now))) × (result < 2 ^ (8 * k)) }
 {
     let mut n: u64 = 0;
-    let mut i: usize = 0;
-    while i < k {
-        n = n * 256 + leaves::wide64(s[at + i]);
-        i += 1;
+    for i in at..at + k {
+        n = n * 256 + leaves::wide64(s[i]);
     }
     n
 }
@@ -63,15 +73,6 @@ pub fn number(d: u64, w: u64, kind: u64) -> i32
     signed(d, power(w))
 }
 
-fn between(z: i32, lo: i32, hi: i32) -> bool
-    ensures { result ≡ inside lo hi z }
-{
-    if lo <= z {
-        return z <= hi;
-    }
-    false
-}
-
 // Whether the number of one piece is within the limits of its kind; it is made only where the kind has some.
 fn piece_fits(n: u64, next: u64, w: u64, kind: u64) -> bool
     requires { (w < 32) × (next < 64) × ((kind ≡ 0 → ⊥) → w ≤ 24) }
@@ -82,9 +83,9 @@ fn piece_fits(n: u64, next: u64, w: u64, kind: u64) -> bool
     }
     let z = number(low(n >> next, w), w, kind);
     if kind == 3 {
-        return between(z, -4194304, 4194304);
+        return (-4_194_304..=4_194_304).contains(&z);
     }
-    between(z, -40, 8191)
+    (-40..=8_191).contains(&z)
 }
 
 // Whether the numbers of the pieces that lie below bit shift of n are within their limits.
@@ -122,14 +123,14 @@ pub fn seen(s: &[u8], at: usize, b: usize) -> usize
     let format = lengths::format_of(b);
     let k = format.octets;
     if short(s.len(), at, k) {
-        return 5 * BAD + at;
+        return refused(Reason::Cut, at);
     }
     let n = octets(s, at, k);
     if n & format.spare == 0 {
         if within(n, (8 * k) as u64, format.pieces, format.runs) {
             return at + k;
         }
-        return 8 * BAD + at;
+        return refused(Reason::Range, at);
     }
-    6 * BAD + at
+    refused(Reason::Spare, at)
 }

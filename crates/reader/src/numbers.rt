@@ -9,10 +9,11 @@ ghost use Rattle.reader.specs.Steps.{line_run};
 ghost use Rattle.reader.specs.Taking.{LineTaken};
 
 use crate::lines;
+use layout::Numbers;
 
 // The number of one piece into its slot: the slots that it took, none where the bits hold no number.
-fn piece(numbers: &mut [i32], n: u64, next: u64, w: u64, kind: u64, slot: usize) -> usize
-    requires { (w < 32) × (next < 64) × (length numbers.old ≤ 1000) × ((kind ≡ 0 → ⊥) → (w ≤ 24) × (slot < length numbers.old)) }
+fn piece(numbers: &mut Numbers, n: u64, next: u64, w: u64, kind: u64, slot: usize) -> usize
+    requires { (w < 32) × (next < 64) × ((kind ≡ 0 → ⊥) → (w ≤ 24) × (slot < SLOTS)) }
     ensures { (result ≡ length (num_of kind w n next)) × (numbers.new ≡ sets numbers.old slot (num_of kind w n next)) }
 {
     if kind == 0 {
@@ -23,33 +24,31 @@ fn piece(numbers: &mut [i32], n: u64, next: u64, w: u64, kind: u64, slot: usize)
 }
 
 // The numbers of so many pieces that lie below bit shift of n, from a slot on.
-fn store(numbers: &mut [i32], n: u64, shift: u64, code: u64, runs: usize, first: usize)
-    requires { (shift ≤ 48) × (runs ≤ 8) × T (narrow (pieces_from runs code)) × (first + length (nums_at (pieces_from runs code) n shift) ≤ length numbers.old) × (length numbers.old ≤ 1000) }
+fn store(numbers: &mut Numbers, n: u64, shift: u64, code: u64, runs: usize, first: usize)
+    requires { (shift ≤ 48) × (runs ≤ 8) × T (narrow (pieces_from runs code)) × (first + length (nums_at (pieces_from runs code) n shift) ≤ SLOTS) }
     ensures { numbers.new ≡ sets numbers.old first (nums_at (pieces_from runs code) n shift) }
 {
     let mut next = shift;
     let mut rest = code;
     let mut slot = first;
-    let mut i: usize = 0;
-    while i < runs {
+    for _ in 0..runs {
         let w = rest % 256 % 32;
         next = leaves::less64(next, w);
-        slot += piece(&mut *numbers, n, next, w, rest % 256 / 32, slot);
+        slot += piece(numbers, n, next, w, rest % 256 / 32, slot);
         rest = rest / 256;
-        i += 1;
     }
 }
 
 // Line b at a place of the field, all of whose octets are there; the slots of its item begin at base. The next place.
-pub fn take(s: &[u8], at: usize, b: usize, base: usize, numbers: &mut [i32]) -> usize
-    requires { ((line_at b).octets ≤ length s.now - at) × (base + (first_at b + count_at b) ≤ SLOTS) × (length numbers.old ≡ SLOTS) }
+pub fn take(s: &[u8], at: usize, b: usize, base: usize, numbers: &mut Numbers) -> usize
+    requires { ((line_at b).octets ≤ length s.now - at) × (base + (first_at b + count_at b) ≤ SLOTS) }
     ensures { LineTaken numbers.old (base + first_at b) (line_run b s.now at) (at + (line_at b).octets) result numbers.new }
 {
     let format = lengths::format_of(b);
     let k = format.octets;
     let n = lines::octets(s, at, k);
     store(
-        &mut *numbers,
+        numbers,
         n,
         (8 * k) as u64,
         format.pieces,

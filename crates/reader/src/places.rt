@@ -2,6 +2,8 @@
 // Promises: each function answers where the reading of its codec ends, or the refusal. What comes before it was answered by a step: a refusal is handed on.
 // A step is one number, so that it travels in a register: the next place, or a refusal's number times BAD and its place. What is there the octets say: an item
 // and a subfield have a flag, and FX of a part is the lowest bit of its last octet. Stands on lines.
+// That the octets are few stands in each contract: as an invariant of a struct it was tried, and the proofs of the rows did not close, since nothing is known of
+// what a closure returned that captures such a struct.
 ghost use Rattle.std.specs.Prelude.{◌≡◌, true, ◌+◌, ◌-◌, ◌%◌, ◌<◌, T, eqb, length, get_or};
 ghost use Rattle.codec.specs.Pick.{pick};
 ghost use Rattle.codec.specs.Field.{flags};
@@ -11,12 +13,12 @@ ghost use Rattle.spots.specs.Spots.{spot_of};
 ghost use Rattle.reader.specs.Steps.{line_run};
 ghost use Rattle.reader.specs.Chains.{chain_at};
 ghost use Rattle.reader.specs.Items.{item_run};
-ghost use Rattle.reader.specs.Seen.{Ends, Went, flag_at, goes_on};
+ghost use Rattle.reader.specs.Seen.{Ends, Asked, Went, flag_at, goes_on};
 ghost use Rattle.reader.specs.Places.{places_from, RowSeen};
 
 use crate::lines;
 use crate::lines::BAD;
-use layout::{Cat021, Cat048};
+use layout::{Cat021, Cat048, Reason};
 use shapes::NO_LINE;
 
 // The octet at a place, 0 past the end.
@@ -36,21 +38,31 @@ fn before(s: &[u8], at: usize) -> u8
     octet_at(s, leaves::less(at, 1))
 }
 
-// Line b, if the flag of index i in an octet says that it is there.
-fn line(s: &[u8], a: usize, o: u8, i: usize, b: usize) -> usize
-    requires { length s.now < 65_536 }
-    ensures { Went (flag_at o i) (line_run b s.now a) a result }
+// What is read behind a step, if the flag of index i in an octet says that it is there. It is asked before it is read, so that what is absent costs no call.
+#[inline(always)]
+fn there<F: FnOnce(usize) -> usize + Drop>(a: usize, o: u8, i: usize, read: F) -> usize
+    requires { a < 65_536 → F.pre read a }
+    ensures { Asked (flag_at o i) (F.post read a) a result }
 {
     if BAD <= a {
         return a;
     }
     if flags::present(o, i) {
-        return lines::seen(s, a, b);
+        return read(a);
     }
     a
 }
 
-// A part behind which no other is defined: FX in it gives 7.
+// Line b, if a flag says that it is there.
+fn line(s: &[u8], a: usize, o: u8, i: usize, b: usize) -> usize
+    requires { length s.now < 65_536 }
+    ensures { Went (flag_at o i) (line_run b s.now a) a result }
+{
+    there(a, o, i, |at| lines::seen(s, at, b))
+}
+
+// A part behind which no other is defined: FX in it gives 7. It is inlined where its line is a literal: called, it costs a fifth of a read.
+#[inline(always)]
 fn only(s: &[u8], at: usize, b: usize) -> usize
     requires { (length s.now < 65_536) × (at < 65_536) × T (parts_ok b 0) }
     ensures { Ends (chain_at b s.now at 0) result }
@@ -60,23 +72,9 @@ fn only(s: &[u8], at: usize, b: usize) -> usize
         return n;
     }
     if flags::present(before(s, n), 7) {
-        return 7 * BAD + at;
+        return lines::refused(Reason::Chain, at);
     }
     n
-}
-
-// The same, if a flag says that it is there.
-fn last(s: &[u8], a: usize, o: u8, i: usize, b: usize) -> usize
-    requires { (length s.now < 65_536) × T (parts_ok b 0) }
-    ensures { Went (flag_at o i) (chain_at b s.now a 0) a result }
-{
-    if BAD <= a {
-        return a;
-    }
-    if flags::present(o, i) {
-        return only(s, a, b);
-    }
-    a
 }
 
 // The flags of a second part, none where the first, whose flags are f, does not go on.
@@ -112,7 +110,7 @@ fn m5n(s: &[u8], at: usize) -> usize
 {
     let f = octet_at(s, at);
     let part = lines::seen(s, at, 8);
-    let parts = last(s, part, before(s, part), 7, 9);
+    let parts = there(part, before(s, part), 7, |at| only(s, at, 9));
     let sum = line(s, parts, f, 0, 10);
     let pmn = line(s, sum, f, 1, 11);
     let pos = line(s, pmn, f, 2, 12);
@@ -140,7 +138,7 @@ fn sgv(s: &[u8], at: usize) -> usize
     ensures { Ends (item_run 9 s.now at) result }
 {
     let part = lines::seen(s, at, 29);
-    last(s, part, before(s, part), 7, 30)
+    there(part, before(s, part), 7, |at| only(s, at, 30))
 }
 
 fn sta(s: &[u8], at: usize) -> usize
@@ -152,7 +150,7 @@ fn sta(s: &[u8], at: usize) -> usize
     let third = line(s, second, before(s, second), 7, 33);
     let fourth = line(s, third, before(s, third), 7, 34);
     let fifth = line(s, fourth, before(s, fourth), 7, 35);
-    last(s, fifth, before(s, fifth), 7, 36)
+    there(fifth, before(s, fifth), 7, |at| only(s, at, 36))
 }
 
 fn mes(s: &[u8], at: usize) -> usize
@@ -193,85 +191,6 @@ pub fn item(s: &[u8], k: usize) -> usize
     }
 }
 
-// The same items, if a flag says that they are there. Each is asked before it is called, so that an absent one costs no call.
-fn md5_there(s: &[u8], a: usize, o: u8, i: usize) -> usize
-    requires { length s.now < 65_536 }
-    ensures { Went (flag_at o i) (item_run 0 s.now a) a result }
-{
-    if BAD <= a {
-        return a;
-    }
-    if flags::present(o, i) {
-        return md5(s, a);
-    }
-    a
-}
-
-fn m5n_there(s: &[u8], a: usize, o: u8, i: usize) -> usize
-    requires { length s.now < 65_536 }
-    ensures { Went (flag_at o i) (item_run 1 s.now a) a result }
-{
-    if BAD <= a {
-        return a;
-    }
-    if flags::present(o, i) {
-        return m5n(s, a);
-    }
-    a
-}
-
-fn rpc_there(s: &[u8], a: usize, o: u8, i: usize) -> usize
-    requires { length s.now < 65_536 }
-    ensures { Went (flag_at o i) (item_run 3 s.now a) a result }
-{
-    if BAD <= a {
-        return a;
-    }
-    if flags::present(o, i) {
-        return rpc(s, a);
-    }
-    a
-}
-
-fn sgv_there(s: &[u8], a: usize, o: u8, i: usize) -> usize
-    requires { length s.now < 65_536 }
-    ensures { Went (flag_at o i) (item_run 9 s.now a) a result }
-{
-    if BAD <= a {
-        return a;
-    }
-    if flags::present(o, i) {
-        return sgv(s, a);
-    }
-    a
-}
-
-fn sta_there(s: &[u8], a: usize, o: u8, i: usize) -> usize
-    requires { length s.now < 65_536 }
-    ensures { Went (flag_at o i) (item_run 10 s.now a) a result }
-{
-    if BAD <= a {
-        return a;
-    }
-    if flags::present(o, i) {
-        return sta(s, a);
-    }
-    a
-}
-
-fn mes_there(s: &[u8], a: usize, o: u8, i: usize) -> usize
-    requires { length s.now < 65_536 }
-    ensures { Went (flag_at o i) (item_run 12 s.now a) a result }
-{
-    if BAD <= a {
-        return a;
-    }
-    if flags::present(o, i) {
-        return mes(s, a);
-    }
-    a
-}
-
 // The step of a row of items, and where each of them begins, an absent one with the next; behind the last item where it ends.
 #[derive(Clone, Copy)]
 pub struct Places(pub usize, pub [u8; 9]);
@@ -280,10 +199,10 @@ fn row_048(s: &[u8], ind: u8) -> Places
     requires { length s.now < 65_536 }
     ensures { RowSeen (places_from 0 5 (flags ind) s.now) 5 result }
 {
-    let md5 = md5_there(s, 2, ind, 0);
-    let m5n = m5n_there(s, md5, ind, 1);
-    let m4e = last(s, m5n, ind, 2, 18);
-    let rpc = rpc_there(s, m4e, ind, 3);
+    let md5 = there(2, ind, 0, |at| md5(s, at));
+    let m5n = there(md5, ind, 1, |at| m5n(s, at));
+    let m4e = there(m5n, ind, 2, |at| only(s, at, 18));
+    let rpc = there(m4e, ind, 3, |at| rpc(s, at));
     let err = line(s, rpc, ind, 4, 24);
     Places(
         err,
@@ -309,10 +228,10 @@ fn row_021(s: &[u8], ind: u8) -> Places
     let selh = line(s, bps, ind, 1, 26);
     let nav = line(s, selh, ind, 2, 27);
     let gao = line(s, nav, ind, 3, 28);
-    let sgv = sgv_there(s, gao, ind, 4);
-    let sta = sta_there(s, sgv, ind, 5);
+    let sgv = there(gao, ind, 4, |at| sgv(s, at));
+    let sta = there(sgv, ind, 5, |at| sta(s, at));
     let tnh = line(s, sta, ind, 6, 37);
-    let mes = mes_there(s, tnh, ind, 7);
+    let mes = there(tnh, ind, 7, |at| mes(s, at));
     Places(
         mes,
         [
@@ -334,9 +253,9 @@ fn row_007(s: &[u8], ind: u8) -> Places
     ensures { RowSeen (places_from 13 5 (flags ind) s.now) 5 result }
 {
     let ta = line(s, 2, ind, 0, 45);
-    let m5n = m5n_there(s, ta, ind, 1);
-    let m4e = last(s, m5n, ind, 2, 18);
-    let rpc = rpc_there(s, m4e, ind, 3);
+    let m5n = there(ta, ind, 1, |at| m5n(s, at));
+    let m4e = there(m5n, ind, 2, |at| only(s, at, 18));
+    let rpc = there(m4e, ind, 3, |at| rpc(s, at));
     let err = line(s, rpc, ind, 4, 24);
     Places(
         err,

@@ -7,83 +7,49 @@
 
 ghost use Rattle.std.specs.Prelude.{◌≡◌, ◌∷◌, ℕ};
 ghost use Rattle.codec.specs.Field.{Contents};
-ghost use Rattle.layout.specs.Answer.{length_of};
-ghost use Rattle.layout.specs.declared.Answer.TheVariants.{Refused};
+ghost use Rattle.layout.specs.Answer.{length_of, Refused};
 ghost use Rattle.scope.specs.Sheet.{sheet_of};
 ghost use Rattle.guess.specs.Guess.{sheet_with, first_wrong};
-ghost use Rattle.rebuild.specs.Rebuilds.{given_by, Rebuilds};
+ghost use Rattle.compare.specs.Lines.{line_of};
+ghost use Rattle.layout.specs.Answer.{rebuilt_by_number};
+ghost use Rattle.rebuild.specs.Rebuilds.{Rebuilds};
 
-use layout::{Answer, LONGEST};
+use layout::{LONGEST, Reason, Rebuilt, Refusal};
+use text::Text;
 
-// The category, 0 on a refusal, and the length of the field, or the refusal's number and its line.
-#[derive(Clone, Copy)]
-pub struct Rebuilt {
-    pub cat: u8,
-    pub answer: Answer,
-}
-
-fn refused(no: u8, line: usize) -> Rebuilt
-    ensures { result ≡ record { cat = 0; answer = Refused no line } }
+// The first line, from 1, in which a text differs from the sheet of a field, with len for the value of its `len`.
+fn wrong(cat: u8, len: u64, field: &[u8], text: &[u8]) -> Option<usize>
+    ensures { (n : ℕ) (r : Contents) → sheet_of (cat ∷ field.now) ≡ sheet_with cat n r → result ≡ line_of (first_wrong 1 (sheet_with cat len r) text.now) }
 {
-    Rebuilt {
-        cat: 0,
-        answer: Answer::Refused(no, line),
-    }
-}
-
-// An answer with the category that goes with it.
-fn given(cat: u8, answer: Answer) -> Rebuilt
-    ensures { result ≡ given_by cat answer }
-{
-    match answer {
-        Answer::Accepted(n) => Rebuilt {
-            cat: cat,
-            answer: Answer::Accepted(n),
-        },
-        Answer::Refused(no, place) => refused(no, place),
-    }
-}
-
-// How many octets an answer gives.
-fn octets_in(answer: Answer) -> usize
-    ensures { result ≡ length_of answer }
-{
-    match answer {
-        Answer::Accepted(n) => n,
-        Answer::Refused(_, _) => 0,
-    }
-}
-
-// The first line, from 1, in which a text differs from the sheet of a field, with len for the value of its `len`; 0 if it does not.
-fn wrong(cat: u8, len: u64, field: &[u8], text: &[u8]) -> usize
-    ensures { (n : ℕ) (r : Contents) → sheet_of (cat ∷ field.now) ≡ sheet_with cat n r → result ≡ first_wrong 1 (sheet_with cat len r) text.now }
-{
-    let mut own = [0u8; 4096];
-    let end = sheet::listed(cat, field, &mut own);
-    let mut buf = [0u8; 4096];
-    let second = text::pair(b"cat", cat as u64, 0, &mut buf);
-    let third = text::pair(b"len", len, second, &mut buf);
-    let last = text::word(walk::skip(&own[..end], 2), third, &mut buf);
-    compare::first_wrong(&buf[..last], text)
+    let mut own = Text::new();
+    sheet::listed(cat, field, &mut own);
+    let mut exchanged = Text::new();
+    exchanged.pair(b"cat", cat);
+    exchanged.pair(b"len", len);
+    exchanged.word(walk::skip(own.as_slice(), 2));
+    compare::first_wrong(exchanged.as_slice(), text)
 }
 
 // The category and the octets of the field whose sheet a text is, into the front of an output: 18, 11.
-pub fn rebuild(text: &[u8], out: &mut [u8]) -> Rebuilt
-    ensures { Rebuilds text.now out.old result out.new }
+pub fn rebuild(text: &[u8], out: &mut [u8]) -> Result<Rebuilt, Refusal>
+    ensures { Rebuilds text.now out.old (rebuilt_by_number result) out.new }
 {
     if text.len() > 32768 {
-        return refused(18, 0);
+        return Err(Reason::Text.at(0));
     }
     let kept = taken::record(text);
     let mut field = [0u8; LONGEST];
-    let n = octets_in(writer::write(kept, &mut field));
+    let n = writer::write(kept, &mut field).unwrap_or(0);
     let len = walk::bounded(walk::next(text), 2, 255);
-    let line = wrong(kept.cat, len, &field[..n], text);
-    if line != 0 {
-        return refused(18, line);
+    if let Some(line) = wrong(kept.cat, len, &field[..n], text) {
+        return Err(Reason::Text.at(line));
     }
-    if len != (n as u64) {
-        return refused(18, 2);
+    if len != n as u64 {
+        return Err(Reason::Text.at(2));
     }
-    given(kept.cat, outputs::deliver(&field[..n], &mut *out))
+    let given = outputs::deliver(&field[..n], &mut *out)?;
+    Ok(Rebuilt {
+        cat: kept.cat,
+        len: given,
+    })
 }

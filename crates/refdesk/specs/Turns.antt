@@ -1,17 +1,16 @@
 -- What is held of the input between two reads, and the laws of the loop over the octets of a read.
-use Rattle.std.specs.Prelude.{◌≡◌, Bool, true, false, ℕ, ◌+◌, ◌-◌, ◌≤◌, ◌<◌, length}
-use Rattle.std.proofs.Math.Path.{sym, ap}
-use Rattle.std.proofs.Common.{◌∙◌, arith, drop-drop}
+use Rattle.std.specs.Prelude.{◌≡◌, Bool, true, false, Option, None, Some, Result, OnOk, ℕ, ◌+◌, ◌-◌, ◌≤◌, ◌<◌, length}
+use Rattle.std.proofs.Math.Path.{refl, sym, ap}
+use Rattle.std.proofs.Common.{◌∙◌, arith, subst, le_refl, take, take_all, drop-drop}
 use mathlib.Core.List.{List, []}
 use Rattle.std.proofs.Math.ListN.{drop, length-drop, drop_of_length-le}
 use Rattle.lines.specs.Lines.{left}
-use Rattle.lines.specs.Joining.{join_of, line_after, Joins}
-use Rattle.lines.specs.Laws.Lines.{Holds, holds_none, join_ends, join-goes_on, place_further}
-use Rattle.lines.specs.declared.Joined.{Joined}
+use Rattle.lines.specs.Joining.{Joined, joined as joined_by, join_of, line_after, Joins}
+use Rattle.lines.specs.Laws.Lines.{Holds, holds_none, join_ends, join-goes_on, place_further, place_within, ends_at_octet}
 
 -- taking in the octets of a read: the array that held a line then holds what is left behind those octets, unless the program ends
-abbrev pub Takes : List ℕ → ℕ → List ℕ → ℕ → List ℕ → Type 0
-Takes s n array r array' = (h : List ℕ) → Holds array n h → (r ≡ 16_386 → ⊥) → Holds array' r (left h s)
+abbrev pub Takes : {T E : Type 0} → List ℕ → ℕ → List ℕ → Result T E → ℕ → List ℕ → Type 0
+Takes s n array r n' array' = (h : List ℕ) → Holds array n h → OnOk r (Holds array' n' (left h s))
 
 -- ---- within a read: the array holds a line, and behind the octets s that are not yet taken the rest will be left
 
@@ -66,3 +65,30 @@ unfolding left
 since_all octets at h {array} {rest} {n} y =
     let e : left y.line (drop at octets) ≡ y.line = ap (left y.line) (drop_of_length-le octets {i = at} h) in
     rw (y.same ∙ e) y.holds
+
+-- ---- a turn: s are the octets of the read that are not yet taken
+
+behind_all : (s : List ℕ) (k : ℕ) → take (length s - k) (drop k s) ≡ drop k s
+behind_all s k = take_all (length s - k) (drop k s) (omega (arith, length-drop k s))
+
+pub behind_shorter : (s : List ℕ) (k : ℕ) → 0 < k → k ≤ length s → length (take (length s - k) (drop k s)) < length s
+behind_shorter s k h l = rw (behind_all s k, length-drop) (omega arith)
+
+-- each turn takes an octet, and no more than there are
+pub taken_within : (s array : List ℕ) (n n' taken : ℕ) {array' : List ℕ} → Joins s 0 n array (joined_by (length s) n' (Some taken)) array' → (0 < taken) × (taken ≤ length s)
+taken_within s array n n' taken x =
+    let e : taken ≡ (join_of (length array) s n 0).at = ap (λ (k : Joined). k.at) x.0 in
+    let some = ends_at_octet (length array) s n 0 (ap (λ (k : Joined). k.ended) (sym x.0)) in
+    (omega (arith, e, place_further (length array) s n 0 some), omega (arith, e, place_within (length array) s n 0))
+
+module _ (s : List ℕ) (n n' : ℕ) (r : Option ℕ) {array array' rest : List ℕ} (x : Joins s 0 n array (joined_by (length s) n' r) array') (y : Since array n s rest) where
+  result_is : {q : Option ℕ} → r ≡ q → Joins s 0 n array (joined_by (length s) n' q) array'
+  result_is e = subst (λ q. Joins s 0 n array (joined_by (length s) n' q) array') e x
+
+  pub line_answered : (taken : ℕ) → r ≡ Some taken → Since array' 0 (take (length s - taken) (drop taken s)) rest
+  line_answered taken e =
+      let t = taken_within s array n n' taken (result_is e) in
+      rw (behind_all s taken) (since_line s 0 n (result_is e) y refl refl (omega arith))
+
+  pub all_taken : r ≡ None → Holds array' n' rest
+  all_taken e = since_all s (length s) (le_refl (length s)) (since_none s 0 n (result_is e) y refl)

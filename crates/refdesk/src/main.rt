@@ -5,78 +5,78 @@
 // tests/vectors.py makes the lines of `stdin`, and by an implementation of 01 and 02 of its own the answers of `stdout`.
 #![tactic(auto)]
 
-ghost use Rattle.std.specs.Prelude.{◌≡◌};
 ghost use Rattle.refdesk.specs.Turns.{Takes};
 
+use lines::Line;
+use std::fmt;
 use std::io::Read;
+use text::Text;
 
-// Held instead of a count of octets: the input is over, or a read or a write has failed.
-const OVER: usize = lines::ROOM + 1;
+// What failed where the program ends before its input does.
+#[derive(Clone, Copy)]
+enum Failure {
+    Reading,
+    Writing,
+}
 
-// A proved loop has to end, and nothing says that the input does: the turns are as many as no run uses up.
-fn main(rt: HostRuntime) {
-    let mut line = [0u8; lines::ROOM];
-    let mut held: usize = 0;
-    for _ in 0..u64::MAX {
-        if held == OVER {
-            return;
-        }
-        held = read_some(&rt, held, &mut line);
+impl fmt::Display for Failure {
+    fn fmt<W: fmt::Write>(&self, f: &mut fmt::Formatter<W>) -> fmt::Result {
+        f.write_str(match self {
+            Failure::Reading => "refdesk: standard input can't be read",
+            Failure::Writing => "refdesk: an answer can't be written",
+        })
     }
 }
 
-// Reads once and answers each line that ends there; how many octets are held then of the line that goes on.
-fn read_some(rt: &HostRuntime, held: usize, line: &mut [u8]) -> usize {
-    let mut octets = [0u8; 4096];
-    let mut stdin = rt.stdin();
-    let Ok(n) = stdin.read(&mut octets) else {
-        return failed(rt, "refdesk: standard input can't be read");
-    };
-    if n == 0 {
-        return last(rt, held, &*line);
+fn main(rt: HostRuntime) {
+    if let Err(failure) = session(&rt) {
+        let _ = rt.eprintln(failure);
     }
-    take_in(rt, &octets[..n], held, &mut *line)
+}
+
+// A proved loop has to end, and nothing says that the input does: the turns are as many as no run uses up.
+fn session(rt: &HostRuntime) -> Result<(), Failure> {
+    let mut room = [0u8; lines::ROOM];
+    let mut line = Line {
+        octets: &mut room,
+        held: 0,
+    };
+    let mut stdin = rt.stdin();
+    let mut octets = [0u8; 4096];
+    for _ in 0..u64::MAX {
+        let n = stdin.read(&mut octets).map_err(|_| Failure::Reading)?;
+        if n == 0 {
+            return last(rt, &line);
+        }
+        take_in(rt, &octets[..n], &mut line)?;
+    }
+    Ok(())
 }
 
 // What is left where the input ends is a line, if it has an octet.
-fn last(rt: &(impl Print + Eprint), held: usize, line: &[u8]) -> usize {
-    if held != 0 {
-        answered(rt, held, line);
+fn last(rt: &impl Print, line: &Line<'_>) -> Result<(), Failure> {
+    if line.held == 0 {
+        return Ok(());
     }
-    OVER
+    answered(rt, line)
 }
 
-fn take_in(rt: &(impl Print + Eprint), octets: &[u8], held: usize, line: &mut [u8]) -> usize
-    ensures { Takes octets.now held line.old result line.new }
+// Answers each line that ends in the octets of a read.
+fn take_in(rt: &impl Print, octets: &[u8], line: &mut Line<'_>) -> Result<(), Failure>
+    ensures { Takes octets.now line.old.held line.old.octets.now result line.new.held line.new.octets.now }
 {
-    let mut so_far = held;
-    let mut at: usize = 0;
-    while at < octets.len() && so_far != OVER {
-        let joined = lines::join(octets, at, so_far, &mut *line);
-        so_far = joined.held;
-        if joined.ended {
-            so_far = answered(rt, joined.held, &*line);
-        }
-        at = joined.at;
+    let mut rest = octets;
+    while let Some(taken) = line.join(rest) {
+        answered(rt, line)?;
+        line.held = 0;
+        rest = &rest[taken..];
     }
-    so_far
+    Ok(())
 }
 
-// Answers the line whose octets are held; 0, since none is held then, or the end.
-fn answered(rt: &(impl Print + Eprint), held: usize, line: &[u8]) -> usize
-    ensures { (result ≡ 16386 → ⊥) → result ≡ 0 }
-{
-    let mut buf = [0u8; 4096];
-    let n = requests::answer(leaves::front(line, held), &mut buf);
-    if rt.write_all(&buf[..n]).is_ok() {
-        return 0;
-    }
-    failed(rt, "refdesk: an answer can't be written")
-}
-
-fn failed(rt: &impl Eprint, what: &str) -> usize
-    ensures { result ≡ 16386 }
-{
-    let _ = rt.eprintln(what);
-    OVER
+// Answers the line whose octets are held.
+fn answered(rt: &impl Print, line: &Line<'_>) -> Result<(), Failure> {
+    let mut reply = Text::new();
+    requests::answer(leaves::front(line.octets, line.held), &mut reply);
+    rt.write_all(reply.as_slice()).map_err(|_| Failure::Writing)
 }

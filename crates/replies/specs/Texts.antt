@@ -3,14 +3,8 @@ use Rattle.std.specs.Prelude.{List, [], ◌∷◌, ◌++◌, ℕ, ◌-◌, eqb, 
 use Rattle.codec.specs.Pick.{pick}
 use Rattle.codec.specs.Frame.{Outcome, accepted, refused}
 use Rattle.papers.specs.Names.{text}
-use Rattle.layout.specs.declared.Answer.{Answer}
-use Rattle.layout.specs.declared.Answer.TheVariants.{Accepted, Refused}
-use Rattle.layout.specs.declared.View.{View}
-use Rattle.layout.specs.declared.View.TheVariants.{Shown, Hidden}
-use Rattle.layout.specs.declared.Choice.{Choice}
-use Rattle.layout.specs.declared.Reading.{Reading}
+use Rattle.layout.specs.Answer.{Answer, Accepted, Refused, View, Shown, Hidden, Choice, Reading, which_number}
 use Rattle.layout.specs.declared.Record.{Record}
-use Rattle.layout.specs.Answer.{which_number}
 use Rattle.scope.specs.Sheet.{decimal, signed_decimal}
 use Rattle.text.specs.Hex.{hex_text}
 use Rattle.papers.specs.Papers.{SLOTS}

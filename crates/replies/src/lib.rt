@@ -1,211 +1,168 @@
-// The answers of the co-process in words: what each operation answered is typed into a buffer, `ok` and what was asked for, or `refused`, number and place.
+// The answers of the co-process in words: what each operation answered is typed into a text, `ok` and what was asked for, or `refused`, number and place.
 // Promises: every octet of the text. Stands on text.
 #![tactic(auto)]
 
-ghost use Rattle.std.specs.Prelude.{◌≡◌};
+ghost use Rattle.std.specs.Prelude.{◌≡◌, ◌∷◌};
 ghost use Rattle.papers.specs.Names.{text};
-ghost use Rattle.text.specs.Typing.{Types};
-ghost use Rattle.replies.specs.Texts.{next, next_signed, next_octets, bad_request, refusal_text, left_text, rebuilt_text, shown_text, view_text, choice_text, words_text, record_text, reading_text, in_line, line_octet, sheet_text};
+ghost use Rattle.layout.specs.Answer.{reason_number, by_number, view_by_number, choice_by_number, reading_by_number, rebuilt_by_number};
+ghost use Rattle.text.specs.Typed.{Typed};
+ghost use Rattle.replies.specs.Texts.{bad_request, refusal_text, left_text, rebuilt_text, shown_text, view_text, choice_text, words_text, record_text, reading_text, in_line, line_octet, sheet_text};
 
-use layout::{Answer, Choice, Reading, Record, View};
+use layout::{Answer, Choice, Part, Reading, Rebuilt, Record, Refusal, View};
+use text::{Hex, Text, Word};
 
 // ---- words of an answer, each behind a space
 
-fn next(n: u64, at: usize, buf: &mut [u8; 4096]) -> usize
-    ensures { Types (next n) buf.old at buf.new result }
+fn next<W: Word>(value: W, reply: &mut Text)
+    ensures { Typed (32 ∷ W.text_of value) reply.old reply.new }
 {
-    let start = text::octet(b' ', at, &mut *buf);
-    text::decimal(n, start, &mut *buf)
+    reply.octet(b' ');
+    value.type_into(reply);
 }
 
-fn next_signed(z: i64, at: usize, buf: &mut [u8; 4096]) -> usize
-    ensures { Types (next_signed z) buf.old at buf.new result }
+fn words<W: Word + Copy>(values: &[W], reply: &mut Text)
+    ensures { Typed (words_text (λ value. 32 ∷ W.text_of value) values.now) reply.old reply.new }
 {
-    let start = text::octet(b' ', at, &mut *buf);
-    text::signed(z, start, &mut *buf)
-}
-
-fn next_octets(s: &[u8], at: usize, buf: &mut [u8; 4096]) -> usize
-    ensures { Types (next_octets s.now) buf.old at buf.new result }
-{
-    let start = text::octet(b' ', at, &mut *buf);
-    text::octets(s, start, &mut *buf)
+    for &value in values {
+        next(value, reply);
+    }
 }
 
 // ---- answers
 
-pub fn bad_request(n: usize, buf: &mut [u8; 4096]) -> usize
-    ensures { Types (bad_request n) buf.old 0 buf.new result }
+pub fn bad_request(n: usize, reply: &mut Text)
+    ensures { Typed (bad_request n) reply.old reply.new }
 {
-    let at = text::word(b"bad-request", 0, &mut *buf);
-    next(n as u64, at, &mut *buf)
+    reply.word(b"bad-request");
+    next(n, reply);
 }
 
-pub fn refusal(no: u8, place: usize, buf: &mut [u8; 4096]) -> usize
-    ensures { Types (refusal_text no place) buf.old 0 buf.new result }
+pub fn refusal(refused: Refusal, reply: &mut Text)
+    ensures { Typed (refusal_text (reason_number refused.reason) refused.place) reply.old reply.new }
 {
-    let number = text::word(b"refused", 0, &mut *buf);
-    let at = next(no as u64, number, &mut *buf);
-    next(place as u64, at, &mut *buf)
+    reply.word(b"refused");
+    next(u8::from(refused.reason), reply);
+    next(refused.place, reply);
 }
 
-fn ok(buf: &mut [u8; 4096]) -> usize
-    ensures { Types (text "ok") buf.old 0 buf.new result }
+fn ok(reply: &mut Text)
+    ensures { Typed (text "ok") reply.old reply.new }
 {
-    text::word(b"ok", 0, &mut *buf)
+    reply.word(b"ok");
 }
 
 // The answer of an operation with an output, and what it left in the output's front.
-pub fn left(answer: Answer, out: &[u8], buf: &mut [u8; 4096]) -> usize
-    ensures { Types (left_text answer out.now) buf.old 0 buf.new result }
+pub fn left(answer: Answer, out: &[u8], reply: &mut Text)
+    ensures { Typed (left_text (by_number answer) out.now) reply.old reply.new }
 {
     match answer {
-        Answer::Accepted(n) => {
-            let at = ok(&mut *buf);
-            next_octets(leaves::front(out, n), at, &mut *buf)
+        Ok(n) => {
+            ok(reply);
+            next(Hex(leaves::front(out, n)), reply);
         }
-        Answer::Refused(no, place) => refusal(no, place, &mut *buf),
+        Err(refused) => refusal(refused, reply),
     }
 }
 
 // The same with the category in front of the octets.
-pub fn rebuilt_text(cat: u8, answer: Answer, out: &[u8], buf: &mut [u8; 4096]) -> usize
-    ensures { Types (rebuilt_text cat answer out.now) buf.old 0 buf.new result }
+pub fn rebuilt_text(answer: Result<Rebuilt, Refusal>, out: &[u8], reply: &mut Text)
+    ensures { Typed (rebuilt_text (rebuilt_by_number answer).cat (rebuilt_by_number answer).answer out.now) reply.old reply.new }
 {
     match answer {
-        Answer::Accepted(n) => {
-            let second = ok(&mut *buf);
-            let third = next(cat as u64, second, &mut *buf);
-            next_octets(leaves::front(out, n), third, &mut *buf)
+        Ok(rebuilt) => {
+            ok(reply);
+            next(rebuilt.cat, reply);
+            next(Hex(leaves::front(out, rebuilt.len)), reply);
         }
-        Answer::Refused(no, line) => refusal(no, line, &mut *buf),
+        Err(refused) => refusal(refused, reply),
     }
 }
 
-fn shown(start: usize, n: usize, part: &[u8], at: usize, buf: &mut [u8; 4096]) -> usize
-    ensures { Types (shown_text start n part.now) buf.old at buf.new result }
+fn shown(at: Part, part: &[u8], reply: &mut Text)
+    ensures { Typed (shown_text at.start at.length part.now) reply.old reply.new }
 {
-    let count = next(start as u64, at, &mut *buf);
-    let octets = next(n as u64, count, &mut *buf);
-    next_octets(part, octets, &mut *buf)
+    next(at.start, reply);
+    next(at.length, reply);
+    next(Hex(part), reply);
 }
 
-pub fn view_text(view: View, part: &[u8], buf: &mut [u8; 4096]) -> usize
-    ensures { Types (view_text view part.now) buf.old 0 buf.new result }
+pub fn view_text(view: View, part: &[u8], reply: &mut Text)
+    ensures { Typed (view_text (view_by_number view) part.now) reply.old reply.new }
 {
     match view {
-        View::Shown(start, n) => {
-            let at = ok(&mut *buf);
-            shown(start, n, part, at, &mut *buf)
+        Ok(at) => {
+            ok(reply);
+            shown(at, part, reply);
         }
-        View::Hidden(no, place) => refusal(no, place, &mut *buf),
+        Err(refused) => refusal(refused, reply),
     }
 }
 
-pub fn choice_text(choice: Choice, part: &[u8], buf: &mut [u8; 4096]) -> usize
-    ensures { Types (choice_text choice part.now) buf.old 0 buf.new result }
+pub fn choice_text(choice: Choice, part: &[u8], reply: &mut Text)
+    ensures { Typed (choice_text (choice_by_number choice) part.now) reply.old reply.new }
 {
-    let which = choice.which;
-    let number = layout::which_number(which) as u64;
-    let view = choice.view;
-    match view {
-        View::Shown(start, n) => {
-            let source = ok(&mut *buf);
-            let at = next(number, source, &mut *buf);
-            shown(start, n, part, at, &mut *buf)
+    let which = u8::from(choice.which);
+    match choice.view {
+        Ok(at) => {
+            ok(reply);
+            next(which, reply);
+            shown(at, part, reply);
         }
-        View::Hidden(no, place) => {
-            let at = refusal(no, place, &mut *buf);
-            next(number, at, &mut *buf)
+        Err(refused) => {
+            refusal(refused, reply);
+            next(which, reply);
         }
     }
 }
 
 // ---- a record
 
-fn octet_words(octets: &[u8], at: usize, buf: &mut [u8; 4096]) -> usize
-    ensures { Types (words_text next octets.now) buf.old at buf.new result }
+fn record_text(kept: &Record, reply: &mut Text)
+    ensures { Typed (record_text kept.now) reply.old reply.new }
 {
-    let mut end = at;
-    let mut i: usize = 0;
-    while i < octets.len() {
-        end = next(octets[i] as u64, end, &mut *buf);
-        i += 1;
-    }
-    end
+    next(kept.cat, reply);
+    next(kept.items, reply);
+    words(&kept.parts, reply);
+    words(&kept.numbers, reply);
 }
 
-fn number_words(numbers: &[i32], at: usize, buf: &mut [u8; 4096]) -> usize
-    ensures { Types (words_text next_signed numbers.now) buf.old at buf.new result }
+pub fn reading_text(reading: Reading, reply: &mut Text)
+    ensures { Typed (reading_text (reading_by_number reading)) reply.old reply.new }
 {
-    let mut end = at;
-    let mut i: usize = 0;
-    while i < numbers.len() {
-        end = next_signed(numbers[i] as i64, end, &mut *buf);
-        i += 1;
-    }
-    end
-}
-
-fn record_text(kept: Record, at: usize, buf: &mut [u8; 4096]) -> usize
-    ensures { Types (record_text kept) buf.old at buf.new result }
-{
-    let parts = kept.parts;
-    let numbers = kept.numbers;
-    let items = next(kept.cat as u64, at, &mut *buf);
-    let chains = next(kept.items as u64, items, &mut *buf);
-    let slots = octet_words(&parts, chains, &mut *buf);
-    number_words(&numbers, slots, &mut *buf)
-}
-
-pub fn reading_text(reading: Reading, buf: &mut [u8; 4096]) -> usize
-    ensures { Types (reading_text reading) buf.old 0 buf.new result }
-{
-    let answer = reading.answer;
-    match answer {
-        Answer::Accepted(n) => {
-            let length = ok(&mut *buf);
-            let at = next(n as u64, length, &mut *buf);
-            let kept = reading.kept;
-            record_text(kept, at, &mut *buf)
+    match reading.answer {
+        Ok(len) => {
+            ok(reply);
+            next(len, reply);
+            record_text(&reading.kept, reply);
         }
-        Answer::Refused(no, place) => refusal(no, place, &mut *buf),
+        Err(refused) => refusal(refused, reply),
     }
 }
 
 // ---- a sheet
 
 // A line feed as a space, so that a line of the sheet becomes a word of the answer.
+#[tactic(auto, unfolding(crate::specs::Texts::in_line))]
 fn in_line(o: u8) -> u8
     ensures { result ≡ in_line o }
 {
-    if o == 10 {
-        return b' ';
-    }
-    o
+    if o == b'\n' { b' ' } else { o }
 }
 
-fn line_words(octets: &[u8], at: usize, buf: &mut [u8; 4096]) -> usize
-    ensures { Types (words_text line_octet octets.now) buf.old at buf.new result }
+// Not `words`: no space stands before an octet.
+fn line_words(octets: &[u8], reply: &mut Text)
+    ensures { Typed (words_text line_octet octets.now) reply.old reply.new }
 {
-    let mut end = at;
-    let mut i: usize = 0;
-    while i < octets.len() {
-        end = text::octet(in_line(octets[i]), end, &mut *buf);
-        i += 1;
+    for &o in octets {
+        reply.octet(in_line(o));
     }
-    end
 }
 
 // The lines of a sheet: each behind a space, without the last line feed.
-pub fn sheet_text(sheet: &[u8], buf: &mut [u8; 4096]) -> usize
-    ensures { Types (sheet_text sheet.now) buf.old 0 buf.new result }
+pub fn sheet_text(sheet: &[u8], reply: &mut Text)
+    ensures { Typed (sheet_text sheet.now) reply.old reply.new }
 {
-    let space = ok(&mut *buf);
-    let at = text::octet(b' ', space, &mut *buf);
-    line_words(
-        leaves::front(sheet, leaves::less(sheet.len(), 1)),
-        at,
-        &mut *buf,
-    )
+    ok(reply);
+    reply.word(b" ");
+    line_words(leaves::front(sheet, sheet.len().saturating_sub(1)), reply);
 }

@@ -6,7 +6,7 @@ use Rattle.codec.specs.Field.{flags, Contents, body}
 use Rattle.codec.specs.Frame.{Outcome, accepted, refused, write_frame}
 use Rattle.codec.specs.Change.{Change, change, alone}
 use Rattle.papers.specs.Papers.{known, paper_of, items_of}
-use Rattle.layout.specs.declared.Answer.{Answer}
+use Rattle.layout.specs.Answer.{Answer}
 use Rattle.scope.specs.Reading.{field_of}
 use Rattle.scope.specs.Outputs.{with_room, Leaves}
 use Rattle.scope.specs.Views.{is_item}

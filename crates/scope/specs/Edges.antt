@@ -15,12 +15,9 @@ use Rattle.papers.specs.Cat021.{cat021}
 use Rattle.papers.specs.Cat007.{cat007}
 use Rattle.papers.specs.Papers.{known, paper_of, SLOTS, all_slots}
 use Rattle.layout.specs.declared.Record.{Record}
-use Rattle.layout.specs.declared.Reading.{Reading}
-use Rattle.layout.specs.declared.View.{View}
-use Rattle.layout.specs.declared.View.TheVariants.{Shown, Hidden}
+use Rattle.layout.specs.Answer.{Reading, View, Shown, Hidden, Accepted, Refused}
 use Rattle.layout.specs.declared.Which.{Which}
 use Rattle.layout.specs.declared.Which.TheVariants.{Neither, Base, Correction}
-use Rattle.layout.specs.declared.Answer.TheVariants.{Accepted, Refused}
 use Rattle.layout.specs.Record.{all_parts, all_numbers, flatten, regroup, unflatten, no_parts, fits_paper, contents}
 use Rattle.scope.specs.Reading.{field_of, no_record, shown, read_of}
 use Rattle.scope.specs.Writing.{writable, written, write_of}

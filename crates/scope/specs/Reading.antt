@@ -6,9 +6,7 @@ use Rattle.codec.specs.Frame.{Outcome, accepted, refused, read_frame}
 use Rattle.codec.specs.Meaning.{len_of}
 use Rattle.papers.specs.Papers.{known, paper_of, SLOTS}
 use Rattle.layout.specs.declared.Record.{Record}
-use Rattle.layout.specs.declared.Reading.{Reading}
-use Rattle.layout.specs.declared.Answer.{Answer}
-use Rattle.layout.specs.declared.Answer.TheVariants.{Accepted, Refused}
+use Rattle.layout.specs.Answer.{Reading, Answer, Accepted, Refused}
 use Rattle.layout.specs.Record.{flatten}
 
 -- what a field of a category holds, or the reader's refusal: every operation on a field begins with this

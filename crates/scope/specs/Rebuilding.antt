@@ -5,8 +5,7 @@ use Rattle.codec.specs.Pick.{pick}
 use Rattle.codec.specs.Codec.{Octets}
 use Rattle.codec.specs.Frame.{Outcome, accepted, refused}
 use Rattle.papers.specs.Names.{text}
-use Rattle.layout.specs.declared.Reading.{Reading}
-use Rattle.layout.specs.declared.Answer.TheVariants.{Accepted}
+use Rattle.layout.specs.Answer.{Reading, Accepted}
 use Rattle.scope.specs.Sheet.{key_line, decimal, sheet_of}
 
 -- ---- lines

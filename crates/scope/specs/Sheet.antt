@@ -8,7 +8,7 @@ use Rattle.codec.specs.Frame.{Outcome, accepted, refused}
 use Rattle.codec.specs.Meaning.{len_of}
 use Rattle.papers.specs.Names.{text, Key, hidden, shown, angle, pressure, Named, names_of}
 use Rattle.papers.specs.Papers.{paper_of}
-use Rattle.layout.specs.declared.Answer.{Answer}
+use Rattle.layout.specs.Answer.{Answer}
 use Rattle.scope.specs.Angle.{udeg_of, left_of}
 use Rattle.scope.specs.Pressure.{tenths_of, sense_of}
 use Rattle.scope.specs.Reading.{field_of}

@@ -4,8 +4,7 @@ use Rattle.codec.specs.Field.{Contents, texts_of}
 use Rattle.codec.specs.Frame.{Outcome, accepted, refused}
 use Rattle.codec.specs.Meaning.{len_of}
 use Rattle.papers.specs.Papers.{paper_of, items_of}
-use Rattle.layout.specs.declared.Answer.TheVariants.{Accepted, Refused}
-use Rattle.layout.specs.declared.Surveyed.{Surveyed}
+use Rattle.layout.specs.Answer.{Accepted, Refused, Surveyed}
 use Rattle.scope.specs.Reading.{field_of}
 
 -- texts behind each other from a place on: where each begins, and where the last ends

@@ -5,11 +5,9 @@ use Rattle.codec.specs.Item.{Item}
 use Rattle.codec.specs.Field.{flags, Contents, body, texts_of, before}
 use Rattle.codec.specs.Frame.{Outcome, accepted, refused, read_frame}
 use Rattle.papers.specs.Papers.{known, paper_of}
-use Rattle.layout.specs.declared.View.{View}
-use Rattle.layout.specs.declared.View.TheVariants.{Shown, Hidden}
+use Rattle.layout.specs.Answer.{View, Shown, Hidden, Choice}
 use Rattle.layout.specs.declared.Which.{Which}
 use Rattle.layout.specs.declared.Which.TheVariants.{Neither, Base, Correction}
-use Rattle.layout.specs.declared.Choice.{Choice}
 use Rattle.scope.specs.Reading.{field_of}
 
 -- "The item number is 1 for bit 8 up to 8 for bit 1"

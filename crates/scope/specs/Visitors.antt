@@ -7,7 +7,7 @@ use Rattle.codec.specs.Field.{Contents, body}
 use Rattle.codec.specs.Frame.{Outcome, accepted, refused, write_frame}
 use Rattle.codec.specs.Change.{set_item, blank_at}
 use Rattle.papers.specs.Papers.{paper_of}
-use Rattle.layout.specs.declared.Answer.{Answer}
+use Rattle.layout.specs.Answer.{Answer}
 use Rattle.scope.specs.Reading.{field_of}
 use Rattle.scope.specs.Outputs.{with_room, Leaves}
 use Rattle.scope.specs.Desk.{listed}

@@ -4,7 +4,7 @@ use Rattle.codec.specs.Pick.{pick}
 use Rattle.codec.specs.Frame.{Outcome, refused, write_frame, okay_frame}
 use Rattle.papers.specs.Papers.{known}
 use Rattle.layout.specs.declared.Record.{Record}
-use Rattle.layout.specs.declared.Answer.{Answer}
+use Rattle.layout.specs.Answer.{Answer}
 use Rattle.layout.specs.Record.{contents}
 use Rattle.scope.specs.Outputs.{with_room, Leaves}
 

@@ -1,5 +1,6 @@
 -- What follows from the definitions, for the proofs of the functions.
 pub mod Keys
+pub mod Marks
 pub mod Numbers
 pub mod Groups
 pub mod Lines

@@ -4,8 +4,7 @@
 #![tactic(auto)]
 
 ghost use Rattle.std.specs.Prelude.{◌≡◌, ◌<◌};
-ghost use Rattle.codec.proofs.Laws.Arms.{Past};
-ghost use Rattle.spots.specs.Spots.{spots, spot_at, spot_of};
+ghost use Rattle.spots.specs.Spots.{spot_at, spot_of};
 
 use layout::{Cat021, Cat048};
 
@@ -14,7 +13,7 @@ use layout::{Cat021, Cat048};
 pub struct Spot(pub u8, pub u8);
 
 // The items of each category, in the order of their bits.
-const SPOTS: [Spot; 18] = [
+static SPOTS: [Spot; 18] = [
     // 048
     Spot(0, 0), // MD5
     Spot(1, 33), // M5N
@@ -38,52 +37,10 @@ const SPOTS: [Spot; 18] = [
     Spot(4, 45), // ERR
 ];
 
-// Its rule: the table says what the papers' data say. Below it a lookup at literal places, for the reason that lengths has.
-fn table_of_spots() -> [Spot; 18]
-    ensures { result ≡ spots }
-{
-    SPOTS
-}
-
-fn spot_in(t: [Spot; 18], i: usize, k: usize) -> Spot
-    requires { (t ≡ spots) × (i ≡ k) × (i < 18) }
-    ensures { result ≡ spot_at k }
-{
-    t[i]
-}
-
-fn no_spot(k: usize) -> Spot
-    requires { Past 18 k }
-    ensures { result ≡ spot_at k }
-{
-    Spot(0, 0)
-}
-
 pub fn spot_at(k: usize) -> Spot
     ensures { result ≡ spot_at k }
 {
-    let t = table_of_spots();
-    match k {
-        0 => spot_in(t, 0, k),
-        1 => spot_in(t, 1, k),
-        2 => spot_in(t, 2, k),
-        3 => spot_in(t, 3, k),
-        4 => spot_in(t, 4, k),
-        5 => spot_in(t, 5, k),
-        6 => spot_in(t, 6, k),
-        7 => spot_in(t, 7, k),
-        8 => spot_in(t, 8, k),
-        9 => spot_in(t, 9, k),
-        10 => spot_in(t, 10, k),
-        11 => spot_in(t, 11, k),
-        12 => spot_in(t, 12, k),
-        13 => spot_in(t, 13, k),
-        14 => spot_in(t, 14, k),
-        15 => spot_in(t, 15, k),
-        16 => spot_in(t, 16, k),
-        17 => spot_in(t, 17, k),
-        _ => no_spot(k),
-    }
+    SPOTS.get(k).copied().unwrap_or(Spot(0, 0))
 }
 
 // Behind the items of 048 stand those of 021, and behind these those of 007.

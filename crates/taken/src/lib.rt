@@ -3,7 +3,7 @@
 // Promises: `record` gives the record of the guess, for every text. Stands on walk and compare for lines and words, on flags, and on lengths, shapes and spots.
 #![tactic(auto)]
 
-ghost use Rattle.std.specs.Prelude.{◌≡◌, ◌+◌, ◌-◌, ◌^◌, ◌≤◌, ◌<◌, T, pos, set, drop};
+ghost use Rattle.std.specs.Prelude.{◌≡◌, ◌++◌, ◌+◌, ◌-◌, ◌^◌, ◌≤◌, ◌<◌, T, pos, set, drop};
 ghost use Rattle.std.proofs.lemmas.List.Edits.{sets};
 ghost use Rattle.codec.specs.Line.{count};
 ghost use Rattle.codec.specs.Item.{slots_of, slots};
@@ -15,12 +15,12 @@ ghost use Rattle.lengths.specs.Lines.{first_at, count_at, kind_of, pieces_from};
 ghost use Rattle.shapes.specs.Shapes.{item_at, lines_from, in_turn};
 ghost use Rattle.spots.specs.Spots.{spot_at, row_ok, items_from};
 ghost use Rattle.sheet.specs.Items.{named_at};
-ghost use Rattle.sheet.specs.Rows.{names_from};
+ghost use Rattle.sheet.specs.Rows.{named_on, names_from};
 ghost use Rattle.walk.specs.Ranges.{ends_right};
 ghost use Rattle.guess.specs.Guess.{piece_in, item_in, item_left, row_in, names_in, category_in};
 ghost use Rattle.taken.specs.Tables.{step_at};
 ghost use Rattle.taken.specs.Lines.{taken_by, behind_by, ends_of, taken_at, behind_at, there_at, taken_from, left_from, flags_from};
-ghost use Rattle.taken.specs.Items.{parts_in, behind_parts, comma_in, record_in};
+ghost use Rattle.taken.specs.Items.{parts_in, behind_parts, comma_in, Behind, record_in};
 
 use layout::{Numbers, Record, SLOTS};
 
@@ -64,13 +64,6 @@ fn piece(t: &[u8], kind: u64, w: u64) -> i32
     walk::ranged(t, -40, 8191) // GA: -1,000 ft
 }
 
-fn put(numbers: &mut Numbers, at: usize, z: i32)
-    requires { at < SLOTS }
-    ensures { numbers.new ≡ set numbers.old at z }
-{
-    numbers[at] = z;
-}
-
 // The numbers of the left pieces of a code, each with so many lines, into the slots from one on; what follows their lines.
 fn numbers<'a>(
     t: &'a [u8],
@@ -84,22 +77,19 @@ fn numbers<'a>(
     ensures behind { result.now ≡ behind_by step (pieces_from left code) t.now }
     ensures kept { out.new ≡ sets out.old slot (taken_by step (pieces_from left code) t.now) }
 {
-    if left == 0 {
-        return t;
+    let mut rest = t;
+    let mut code = code;
+    let mut slot = slot;
+    for _ in 0..left {
+        let kind = code % 256 / 32;
+        if kind != 0 {
+            out[slot] = piece(rest, kind, code % 256 % 32);
+            rest = walk::skip(rest, step);
+            slot += 1;
+        }
+        code /= 256;
     }
-    let kind = code % 256 / 32;
-    if kind == 0 {
-        return numbers(t, code / 256, left - 1, step, slot, &mut *out);
-    }
-    put(&mut *out, slot, piece(t, kind, code % 256 % 32));
-    numbers(
-        walk::skip(t, step),
-        code / 256,
-        left - 1,
-        step,
-        slot + 1,
-        &mut *out,
-    )
+    rest
 }
 
 // Line b, a chain part or a subfield, into its slots, those of its item beginning at base; what follows its lines.
@@ -147,15 +137,15 @@ fn lines<'a>(
     ensures behind { result.now ≡ left_from b left n t.now }
     ensures kept { out.new ≡ sets out.old (base + first_at b) (taken_from b left n t.now) }
 {
-    if left == 0 {
-        return t;
+    let mut rest = t;
+    for i in 0..left {
+        if is_there(rest, b + i, leaves::less(n, i)) {
+            rest = line(rest, b + i, base, &mut *out);
+        } else {
+            line(&[], b + i, base, &mut *out);
+        }
     }
-    if is_there(t, b, n) {
-        let next = line(t, b, base, &mut *out);
-        return lines(next, b + 1, left - 1, leaves::less(n, 1), base, &mut *out);
-    }
-    line(&t[..0], b, base, &mut *out);
-    lines(t, b + 1, left - 1, leaves::less(n, 1), base, &mut *out)
+    rest
 }
 
 // What follows line b, whose numbers are not kept.
@@ -171,17 +161,15 @@ fn flags(t: &[u8], b: usize, left: usize, n: usize, slot: usize, out: &mut Numbe
     requires { (b + left ≤ 300) × (slot + left ≤ SLOTS) }
     ensures { out.new ≡ sets out.old slot (flags_from b left n t.now) }
 {
-    if left == 0 {
-        return;
+    let mut rest = t;
+    for i in 0..left {
+        if is_there(rest, b + i, leaves::less(n, i)) {
+            out[slot + i] = 1;
+            rest = passed(rest, b + i);
+        } else {
+            out[slot + i] = 0;
+        }
     }
-    let less = leaves::less(n, 1);
-    if is_there(t, b, n) {
-        put(&mut *out, slot, 1);
-        flags(passed(t, b), b + 1, left - 1, less, slot + 1, &mut *out);
-        return;
-    }
-    put(&mut *out, slot, 0);
-    flags(t, b + 1, left - 1, less, slot + 1, &mut *out);
 }
 
 // ---- an item
@@ -210,8 +198,7 @@ fn behind_parts<'a>(t: &'a [u8], most: usize) -> &'a [u8]
 fn first_of(b: usize) -> usize
     ensures { result ≡ first_at b }
 {
-    let format = lengths::format_of(b);
-    format.first
+    lengths::format_of(b).first
 }
 
 // The parts of item k of those that some paper has; 0 without a chain.
@@ -246,71 +233,55 @@ fn item<'a>(t: &'a [u8], k: usize, base: usize, out: &mut Numbers) -> &'a [u8]
 
 // ---- the items of a category
 
-fn put_part(parts: &mut [u8; 8], i: usize, p: u8)
-    requires { i < 8 }
-    ensures { parts.new ≡ set parts.old i p }
-{
-    parts[i] = p;
-}
-
 // The left items from spot k on, the first of them having index i: from no text those that are not there.
 fn row(t: &[u8], items: u8, k: usize, i: usize, left: usize, parts: &mut [u8; 8], out: &mut Numbers)
     requires { (k + left ≤ 200) × (i + left ≤ 8) × T (row_ok k left) }
     ensures counts { parts.new ≡ sets parts.old i (all_parts (row_in (drop i (flags items)) (items_from k left) (names_from k left) t.now)) }
     ensures kept { out.new ≡ sets out.old (spot_at k).1 (all_numbers (row_in (drop i (flags items)) (items_from k left) (names_from k left) t.now)) }
 {
-    if left == 0 {
-        return;
+    let mut rest = t;
+    for j in 0..left {
+        let spot = spots::spot_at(k + j);
+        let at = leaves::wide(spot.0);
+        let base = leaves::wide(spot.1);
+        if flags::present(items, i + j) {
+            parts[i + j] = count(rest, at);
+            rest = item(rest, at, base, &mut *out);
+        } else {
+            parts[i + j] = 0;
+            item(&[], at, base, &mut *out);
+        }
     }
-    let spot = spots::spot_at(k);
-    let at = leaves::wide(spot.0);
-    let base = leaves::wide(spot.1);
-    if flags::present(items, i) {
-        put_part(&mut *parts, i, count(t, at));
-        let next = item(t, at, base, &mut *out);
-        row(next, items, k + 1, i + 1, left - 1, &mut *parts, &mut *out);
-        return;
-    }
-    put_part(&mut *parts, i, 0);
-    item(&t[..0], at, base, &mut *out);
-    row(t, items, k + 1, i + 1, left - 1, &mut *parts, &mut *out);
 }
 
-// The indicator with the left items from spot k on whose names stand in a word one behind the other, the first of them having index i. A name but the first has
-// a comma, of so many octets, before it.
+// What follows the name of the item at spot k, where a text begins with it. A name but the first has a comma, of so many octets, before it.
+fn behind_name<'a>(t: &'a [u8], comma: usize, k: usize) -> Option<&'a [u8]>
+    ensures { Behind (comma_in comma ++ (named_on k).name) t.now result }
+{
+    let all = b"MD5 M5N M4E RPC ERR BPS SelH NAV GAO SGV STA TNH MES TA";
+    let spot = spots::spot_at(k);
+    t.strip_prefix(leaves::front(b",", comma))?
+        .strip_prefix(walk::word(all, leaves::wide(spot.0)))
+}
+
+// The indicator with the left items from spot k on whose names stand in a word one behind the other, the first of them having index i.
 fn names(w: &[u8], comma: usize, k: usize, i: usize, left: usize, items: u8) -> u8
     requires { (k + left ≤ 200) × (i + left ≤ 8) }
     ensures { result ≡ join ones (sets (flags items) i (names_in (comma_in comma) (names_from k left) w.now)) }
 {
-    if left == 0 {
-        return items;
-    }
-    let before = leaves::front(b",", comma);
-    if compare::opens(before, w) {
-        let spot = spots::spot_at(k);
-        let all = b"MD5 M5N M4E RPC ERR BPS SelH NAV GAO SGV STA TNH MES TA";
-        let name = walk::word(all, leaves::wide(spot.0));
-        let rest = walk::past(w, before.len());
-        if compare::opens(name, rest) {
-            let with = flags::with_item(items, i);
-            return names(
-                walk::past(rest, name.len()),
-                1,
-                k + 1,
-                i + 1,
-                left - 1,
-                with,
-            );
+    let mut rest = w;
+    let mut comma = comma;
+    let mut items = items;
+    for j in 0..left {
+        if let Some(behind) = behind_name(rest, comma, k + j) {
+            rest = behind;
+            comma = 1;
+            items = flags::with_item(items, i + j);
+        } else {
+            items = flags::without_item(items, i + j);
         }
     }
-    names(
-        w,
-        comma,
-        k + 1,
-        i + 1,
-        left - 1,
-        flags::without_item(items, i),
-    )
+    items
 }
 
 // The category of the first line; 48 where it has none.

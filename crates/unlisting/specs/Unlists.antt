@@ -4,9 +4,7 @@ use Rattle.std.specs.Prelude.{◌≡◌, List, [], ◌∷◌, ◌++◌, ℕ, suc
 use Rattle.codec.specs.Frame.{accepted}
 use Rattle.papers.specs.Papers.{LONGEST}
 use Rattle.papers.specs.Names.{text}
-use Rattle.layout.specs.declared.Answer.{Answer}
-use Rattle.layout.specs.declared.Answer.TheVariants.{Accepted, Refused}
-use Rattle.layout.specs.Answer.{length_of}
+use Rattle.layout.specs.Answer.{Answer, Accepted, Refused, length_of}
 use Rattle.scope.specs.Outputs.{answer_of}
 use Rattle.scope.specs.Rebuilding.{octets_given}
 use Rattle.scope.specs.Sheet.{key_line, decimal}

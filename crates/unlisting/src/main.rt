@@ -6,11 +6,12 @@
 #![tactic(auto)]
 
 ghost use Rattle.std.specs.Prelude.{◌≡◌, length};
-ghost use Rattle.text.specs.Typing.{Types};
+ghost use Rattle.layout.specs.Answer.{Refused, reason_number, by_number};
+ghost use Rattle.text.specs.Typed.{Typed};
 ghost use Rattle.unlisting.specs.Unlists.{ROOM, Unlists, refusal_lines};
 
-use inputs::Input;
-use layout::{Answer, LONGEST};
+use layout::{Answer, LONGEST, Refusal};
+use text::Text;
 
 // A text may have 32,768 octets; of a longer one these are enough to refuse it.
 const MOST: usize = 32769;
@@ -20,43 +21,39 @@ const ROOM: usize = LONGEST + 1;
 
 fn main(rt: HostRuntime) {
     let mut input = [0u8; MOST];
-    let Input::Octets(n) = inputs::read_in(&mut rt.stdin(), &mut input) else {
+    let Ok(n) = inputs::read_in(&mut rt.stdin(), &mut input) else {
         let _ = rt.eprintln("unlisting: standard input can't be read");
         return;
     };
     let mut output = [0u8; ROOM];
-    let answer = unlisted(&input[..n], &mut output);
-    let Answer::Accepted(len) = answer else {
-        let mut lines = [0u8; 4096];
-        let last = refusal(answer, &mut lines);
-        let _ = rt.stderr().write_all(&lines[..last]);
-        return;
-    };
-    let end = len + 1;
-    if rt.write_all(&output[..end]).is_err() {
-        let _ = rt.eprintln("unlisting: the field can't be written");
+    match unlisted(&input[..n], &mut output) {
+        Ok(len) => {
+            if rt.write_all(&output[..len + 1]).is_err() {
+                let _ = rt.eprintln("unlisting: the field can't be written");
+            }
+        }
+        Err(refused) => {
+            let mut lines = Text::new();
+            refusal(refused, &mut lines);
+            let _ = rt.stderr().write_all(lines.as_slice());
+        }
     }
 }
 
 // The category and the field into the front of the output. With so much room only 18 is given.
 fn unlisted(text: &[u8], output: &mut [u8]) -> Answer
     requires { length output.old ≡ ROOM }
-    ensures { Unlists text.now result output.new }
+    ensures { Unlists text.now (by_number result) output.new }
 {
-    let given = rebuild::rebuild(text, &mut output[1..]);
-    output[0] = given.cat;
-    given.answer
+    let rebuilt = rebuild::rebuild(text, &mut output[1..])?;
+    output[0] = rebuilt.cat;
+    Ok(rebuilt.len)
 }
 
-// The two lines of a refusal into the front of an array; the place behind them.
-fn refusal(answer: Answer, lines: &mut [u8; 4096]) -> usize
-    ensures { Types (refusal_lines answer) lines.old 0 lines.new result }
+// The two lines of a refusal.
+fn refusal(refused: Refusal, lines: &mut Text)
+    ensures { Typed (refusal_lines (Refused (reason_number refused.reason) refused.place)) lines.old lines.new }
 {
-    match answer {
-        Answer::Accepted(_) => 0,
-        Answer::Refused(no, line) => {
-            let next = text::pair(b"refused", no as u64, 0, &mut *lines);
-            text::pair(b"line", line as u64, next, &mut *lines)
-        }
-    }
+    lines.pair(b"refused", u8::from(refused.reason));
+    lines.pair(b"line", refused.place);
 }

@@ -1,8 +1,6 @@
 -- The choice between two fields, by the views of both.
-use Rattle.layout.specs.declared.View.{View}
-use Rattle.layout.specs.declared.View.TheVariants.{Shown, Hidden}
+use Rattle.layout.specs.Answer.{View, Shown, Hidden, Choice}
 use Rattle.layout.specs.declared.Which.TheVariants.{Neither, Base, Correction}
-use Rattle.layout.specs.declared.Choice.{Choice}
 
 -- the correction's view where it shows something, else the base's
 unfoldable pub chosen_view : View → View → Choice

@@ -1,11 +1,9 @@
 -- Where a returned part stands in memory, a block and an offset in it: in the lent field itself, from the item's first offset on ("The view of an item is that part of the lent field",
 -- "the correction's own part .. the base's own part"). The empty part, where nothing is shown, stands at the first octet.
 use Rattle.std.specs.Prelude.{ℕ, ◌+◌}
-use Rattle.layout.specs.declared.View.{View}
-use Rattle.layout.specs.declared.View.TheVariants.{Shown, Hidden}
+use Rattle.layout.specs.Answer.{View, Shown, Hidden, Choice}
 use Rattle.layout.specs.declared.Which.{Which}
 use Rattle.layout.specs.declared.Which.TheVariants.{Neither, Base, Correction}
-use Rattle.layout.specs.declared.Choice.{Choice}
 
 unfoldable pub part_at : ℕ × ℕ → View → ℕ × ℕ
 part_at p (Shown a m) = (p.0, a + p.1)

@@ -3,10 +3,7 @@ use Rattle.std.specs.Prelude.{List, ℕ, suc, ◌-◌, ◌≤◌, ◌<◌, eqb, 
 use Rattle.codec.specs.Pick.{pick}
 use Rattle.codec.specs.Field.{flags}
 use Rattle.papers.specs.Papers.{paper_of, items_of}
-use Rattle.layout.specs.declared.Answer.{Answer}
-use Rattle.layout.specs.declared.Answer.TheVariants.{Accepted, Refused}
-use Rattle.layout.specs.declared.View.{View}
-use Rattle.layout.specs.declared.View.TheVariants.{Shown, Hidden}
+use Rattle.layout.specs.Answer.{View, Shown, Hidden}
 use Rattle.scope.specs.Views.{is_item}
 
 -- the items of a category begin one after the other
@@ -18,8 +15,3 @@ stands_at cat ind starts item =
     pick (is_item (paper_of cat) item)
     (pick (eqb (get_or (flags ind) (item - 1) 0) 1) (Shown (get_or starts (item - 1) 0) (get_or starts item 0 - get_or starts (item - 1) 0)) (Hidden 15 0))
     (Hidden 12 0)
-
--- all of a field, or its refusal
-abbrev pub as_view : Answer → View
-as_view (Accepted n) = Shown 0 n
-as_view (Refused e p) = Hidden e p

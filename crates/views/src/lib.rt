@@ -3,63 +3,52 @@
 #![tactic(auto)]
 
 ghost use Rattle.std.specs.Prelude.{◌≡◌, ℕ, ◌+◌, ◌-◌, ◌≤◌, ◌<◌, length};
-ghost use Rattle.layout.specs.declared.View.TheVariants.{Shown};
+ghost use Rattle.layout.specs.Answer.{Shown, view_by_number, choice_by_number};
 ghost use Rattle.scope.specs.Views.{view_of, part_of, choose_of, chosen_of};
-ghost use Rattle.views.specs.Standing.{Rising, stands_at, as_view};
+ghost use Rattle.views.specs.Standing.{Rising, stands_at};
 ghost use Rattle.views.specs.Choosing.{chosen_view};
 ghost use Rattle.views.specs.Parts.{part_at, chosen_at};
 
-use layout::{Answer, Choice, View, Which};
+use layout::{Choice, Part, Reason, Survey, View, Which};
 
 // Where an item of a category stands in an accepted field, by its indicator and where each item begins.
-fn standing(cat: u8, items: u8, starts: [u8; 9], item: u8) -> View
-    requires { Rising cat starts }
-    ensures { result ≡ stands_at cat items starts item }
+fn standing(cat: u8, found: Survey, item: u8) -> View
+    requires { Rising cat found.starts }
+    ensures { view_by_number result ≡ stands_at cat found.items found.starts item }
 {
     if layout::is_item(cat, item) {
         let i = leaves::wide(item);
-        if flags::present(items, i - 1) {
+        if flags::present(found.items, i - 1) {
+            let starts = found.starts;
             let from = leaves::wide(starts[i - 1]);
             let to = leaves::wide(starts[i]);
-            return View::Shown(from, to - from);
+            return Ok(Part {
+                start: from,
+                length: to - from,
+            });
         }
-        return View::Hidden(15, 0);
+        return Err(Reason::Absent.at(0));
     }
-    View::Hidden(12, 0)
-}
-
-// A field as a view of itself: all of it, or its refusal unchanged.
-fn as_view(a: Answer) -> View
-    ensures { result ≡ as_view a }
-{
-    match a {
-        Answer::Accepted(n) => View::Shown(0, n),
-        Answer::Refused(e, p) => View::Hidden(e, p),
-    }
+    Err(Reason::Item.at(0))
 }
 
 // The first offset and the length of an item, or the refusal.
 pub fn view_answer(cat: u8, field: &[u8], item: u8) -> View
-    ensures { result ≡ view_of cat field.now item }
+    ensures { view_by_number result ≡ view_of cat field.now item }
 {
-    let v = reader::survey(cat, field);
-    let a = v.answer;
-    let Answer::Accepted(_) = a else {
-        return as_view(a);
-    };
-    let starts = v.starts;
-    standing(cat, v.items, starts, item)
+    let found = reader::survey(cat, field)?;
+    standing(cat, found, item)
 }
 
 // The part of a field that a view shows.
-fn part<'a>(field: &'a [u8], v: View) -> &'a [u8]
-    requires { (a m : ℕ) → v ≡ Shown a m → a + m ≤ length field.now }
-    ensures { (result.now ≡ part_of field.now v) × (result.ref_ptr ≡ part_at field.entry.ref_ptr v) }
+fn part<'a>(field: &'a [u8], view: View) -> &'a [u8]
+    requires { (a m : ℕ) → view_by_number view ≡ Shown a m → a + m ≤ length field.now }
+    ensures { (result.now ≡ part_of field.now (view_by_number view)) × (result.ref_ptr ≡ part_at field.entry.ref_ptr (view_by_number view)) }
 {
-    let View::Shown(from, n) = v else {
+    let Ok(shown) = view else {
         return &field[..0];
     };
-    &field[from..from + n]
+    &field[shown.start..shown.start + shown.length]
 }
 
 // The item's part of the field; the empty part where nothing can be shown.
@@ -73,15 +62,15 @@ pub fn view<'a>(cat: u8, field: &'a [u8], item: u8) -> &'a [u8]
 
 // The view of an item in the correction where it is there, else in the base.
 fn chosen(base: View, correction: View) -> Choice
-    ensures { result ≡ chosen_view base correction }
+    ensures { choice_by_number result ≡ chosen_view (view_by_number base) (view_by_number correction) }
 {
-    if let View::Shown(_, _) = correction {
+    if let Ok(_) = correction {
         return Choice {
             which: Which::Correction,
             view: correction,
         };
     }
-    if let View::Shown(_, _) = base {
+    if let Ok(_) = base {
         return Choice {
             which: Which::Base,
             view: base,
@@ -95,34 +84,34 @@ fn chosen(base: View, correction: View) -> Choice
 
 // Where the item stands in the correction, or else in the base; or the refusal, and which field it is of.
 pub fn choose_answer(cat: u8, base: &[u8], correction: &[u8], item: u8) -> Choice
-    ensures { result ≡ choose_of cat base.now correction.now item }
+    ensures { choice_by_number result ≡ choose_of cat base.now correction.now item }
 {
     if layout::is_known(cat) {
-        let b = reader::survey(cat, base);
-        let r = b.answer;
-        let Answer::Accepted(_) = r else {
-            return Choice {
-                which: Which::Base,
-                view: as_view(r),
-            };
+        let b = match reader::survey(cat, base) {
+            Ok(found) => found,
+            Err(refusal) => {
+                return Choice {
+                    which: Which::Base,
+                    view: Err(refusal),
+                };
+            }
         };
-        let c = reader::survey(cat, correction);
-        let q = c.answer;
-        let Answer::Accepted(_) = q else {
-            return Choice {
-                which: Which::Correction,
-                view: as_view(q),
-            };
+        let c = match reader::survey(cat, correction) {
+            Ok(found) => found,
+            Err(refusal) => {
+                return Choice {
+                    which: Which::Correction,
+                    view: Err(refusal),
+                };
+            }
         };
-        let bs = b.starts;
-        let cs = c.starts;
-        let x = standing(cat, b.items, bs, item);
-        let y = standing(cat, c.items, cs, item);
+        let x = standing(cat, b, item);
+        let y = standing(cat, c, item);
         return chosen(x, y);
     }
     Choice {
         which: Which::Neither,
-        view: View::Hidden(1, 0),
+        view: Err(Reason::Category.at(0)),
     }
 }
 

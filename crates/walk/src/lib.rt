@@ -12,33 +12,21 @@ ghost use Rattle.walk.specs.Ranges.{ranged_in};
 fn find(s: &[u8], x: u8) -> usize
     ensures { result ≡ place_in x s.now }
 {
-    let mut i: usize = 0;
-    while i < s.len() {
-        if s[i] == x {
-            return i;
-        }
-        i += 1;
-    }
-    i
+    s.iter().position(|o| *o == x).unwrap_or(s.len())
 }
 
 // What stands behind so many octets.
 pub fn past<'a>(s: &'a [u8], n: usize) -> &'a [u8]
     ensures { result.now ≡ drop n s.now }
 {
-    if n < s.len() {
-        return &s[n..];
-    }
-    let end = s.len();
-    &s[end..]
+    s.get(n..).unwrap_or(&[])
 }
 
 // What stands before the first octet x, and behind it.
 fn before<'a>(s: &'a [u8], x: u8) -> &'a [u8]
     ensures { result.now ≡ before_octet x s.now }
 {
-    let n = find(s, x);
-    &s[..n]
+    &s[..find(s, x)]
 }
 
 fn behind<'a>(s: &'a [u8], x: u8) -> &'a [u8]
@@ -47,7 +35,7 @@ fn behind<'a>(s: &'a [u8], x: u8) -> &'a [u8]
     past(past(s, find(s, x)), 1)
 }
 
-// The first line of a text, without its line feed, and what follows it.
+// The first line of a text, without its line feed, and what follows it. What may not change: `one_walk_line` and `one_walk_next` (promises) speak of each.
 pub fn line<'a>(t: &'a [u8]) -> &'a [u8]
     ensures { result.now ≡ until_feed t.now }
 {
@@ -64,20 +52,22 @@ pub fn next<'a>(t: &'a [u8]) -> &'a [u8]
 pub fn skip<'a>(t: &'a [u8], n: usize) -> &'a [u8]
     ensures { result.now ≡ behind_feeds n t.now }
 {
-    if n == 0 {
-        return t;
+    let mut rest = t;
+    for _ in 0..n {
+        rest = next(rest);
     }
-    skip(next(t), n - 1)
+    rest
 }
 
 // Word k of a text of words, from 0, none past the last. One space stands between two words.
 pub fn word<'a>(t: &'a [u8], k: usize) -> &'a [u8]
     ensures { result.now ≡ get_or (words_in t.now) k [] }
 {
-    if k == 0 {
-        return before(t, b' ');
+    let mut rest = t;
+    for _ in 0..k {
+        rest = behind(rest, b' ');
     }
-    word(behind(t, b' '), k - 1)
+    before(rest, b' ')
 }
 
 // The value of the first line.
@@ -88,27 +78,21 @@ pub fn value<'a>(t: &'a [u8]) -> &'a [u8]
 }
 
 // The plain decimal that the first line's value is, if it is one from lo to hi, else lo. The same of 32 bits, with a sign or without, else 0.
+// What may not change: `one_walk_bounded` and `one_walk_ranged` (promises) speak of these answers.
 pub fn bounded(t: &[u8], lo: u32, hi: u32) -> u64
     ensures { result ≡ bounded_in lo hi t.now }
 {
-    let n = words::number(value(t), hi);
-    if n < (lo as u64) {
-        return lo as u64;
-    }
-    if n > (hi as u64) {
-        return lo as u64;
-    }
-    n
+    u64::from(
+        words::number(value(t), hi)
+            .filter(|n| lo <= *n)
+            .unwrap_or(lo),
+    )
 }
 
 pub fn ranged(t: &[u8], lo: i32, hi: i32) -> i32
     ensures { result ≡ ranged_in lo hi t.now }
 {
-    let n = words::whole(value(t));
-    if lo <= n {
-        if n <= hi {
-            return n;
-        }
-    }
-    0
+    words::signed(value(t))
+        .filter(|n| lo <= *n && *n <= hi)
+        .unwrap_or(0)
 }

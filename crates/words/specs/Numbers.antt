@@ -1,6 +1,8 @@
 -- The number that a word writes. A number is a plain decimal, as `decimal` and `signed_decimal` (01, 'The sheet') write it: digits only, no 0 in front but of 0 itself,
 -- and a `-` only before a number below 0. So a number is written by one word, and a word writes at most one number.
-use Rattle.std.specs.Prelude.{Bool, true, ◌&&◌, List, ℕ, ◌+◌, ◌-◌, ltb, leb, eqb, ℤ, pos, negsuc, length, get_or, drop}
+use Rattle.std.specs.Prelude.{Bool, true, not, ◌&&◌, Option, List, ℕ, ◌+◌, ◌-◌, ltb, leb, eqb, ℤ, pos, negsuc, length, get_or, drop}
+use Rattle.std.specs.Bool.{then_some}
+use Rattle.std.specs.Int.Signed.{lt_z}
 use Rattle.codec.specs.Pick.{pick}
 use Rattle.text.specs.Decimals.{value_from, value_of}
 use Rattle.text.specs.Laws.Decimals.{are_digits}
@@ -22,6 +24,10 @@ unfoldable pub number_in : ℕ → List ℕ → ℕ
 unfolding is_number
 number_in limit w = pick (is_number limit w) (value_of w) (limit + 1)
 
+-- the number as code gives it: None is one more than the limit
+abbrev pub at_most : ℕ → ℕ → Option ℕ
+at_most limit n = then_some (leb n limit) n
+
 -- ---- numbers of 32 bits, with a sign; 45 is the `-`
 
 unfoldable pub is_signed : List ℕ → Bool
@@ -35,6 +41,10 @@ signed_value w = pick (eqb (get_or w 0 0) 45) (negsuc (value_of (drop 1 w) - 1))
 unfoldable pub signed_in : List ℕ → ℤ
 unfolding is_signed signed_value
 signed_in w = pick (is_signed w) (signed_value w) (pos 2_147_483_648)
+
+-- the number as code gives it: None is one more than the highest
+abbrev pub within_32 : ℤ → Option ℤ
+within_32 z = then_some (not (lt_z (pos 2_147_483_647) z)) z
 
 -- the number below 0 of a magnitude, as the code makes it
 unfoldable pub below : ℕ → ℤ

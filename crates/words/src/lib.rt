@@ -3,25 +3,17 @@
 // Stands on text, which says what a decimal means.
 #![tactic(auto)]
 
-ghost use Rattle.std.specs.Prelude.{◌≡◌, ◌+◌, ◌-◌, ◌*◌, ◌<◌, ◌≤◌, drop};
-ghost use Rattle.text.specs.Decimals.{is_digit};
+ghost use Rattle.std.specs.Prelude.{◌≡◌, drop};
 ghost use Rattle.words.specs.Lines.{word_length, word_of};
-ghost use Rattle.words.specs.Numbers.{leads, number_in, below, signed_in, value_in, whole_in};
+ghost use Rattle.words.specs.Numbers.{leads, number_in, at_most, below, signed_in, within_32, value_in, whole_in};
 
 // ---- words
 
-// The place of the first space from a place on, or the end of the line.
-fn end(line: &[u8], at: usize) -> usize
-    ensures { result ≡ at + word_length (drop at line.now) }
+// Where the word in front ends: before the first space, or with the line.
+fn end(rest: &[u8]) -> usize
+    ensures { result ≡ word_length rest.now }
 {
-    let mut i = at;
-    while i < line.len() {
-        if line[i] == b' ' {
-            return i;
-        }
-        i += 1;
-    }
-    i
+    rest.iter().position(|o| *o == b' ').unwrap_or(rest.len())
 }
 
 // The word that starts at a place; none past the end.
@@ -29,121 +21,83 @@ pub fn word_at<'a>(line: &'a [u8], at: usize) -> &'a [u8]
     ensures { result.now ≡ word_of (drop at line.now) }
 {
     if line.len() < at {
-        return &line[..0];
+        return &[];
     }
-    let stop = end(line, at);
-    &line[at..stop]
+    let rest = &line[at..];
+    &rest[..end(rest)]
 }
 
 // ---- numbers
 
-fn is_digit(o: u8) -> bool
-    ensures { result ≡ is_digit o }
-{
-    if o < b'0' {
-        return false;
-    }
-    o <= b'9'
-}
-
 // The first octet is one that a plain decimal can begin with: a 0 stands alone.
+#[tactic(auto, using(crate::specs::Laws::Numbers::leads_none, crate::specs::Laws::Numbers::leads_one, crate::specs::Laws::Numbers::leads_several))]
 fn leads_well(word: &[u8]) -> bool
     ensures { result ≡ leads word.now }
 {
-    if word.len() == 0 {
-        return false;
+    match word {
+        [] => false,
+        [_] => true,
+        [first, ..] => *first != b'0',
     }
-    if word.len() == 1 {
-        return true;
-    }
-    word[0] != b'0'
 }
 
-// The number that a digit goes on.
-fn further(v: u64, o: u8) -> u64
-    requires { (v < 4294967296) × (48 ≤ o) }
-    ensures { result ≡ v * 10 + (o - 48) }
+// The number that a word writes as a plain decimal, at most a limit.
+pub fn number(word: &[u8], limit: u32) -> Option<u32>
+    ensures { result ≡ at_most limit (number_in limit word.now) }
 {
-    v * 10 + (o - b'0') as u64
-}
-
-// The number that a word writes as a plain decimal, at most a limit; one more than the limit where it writes none.
-pub fn number(word: &[u8], limit: u32) -> u64
-    ensures { result ≡ number_in limit word.now }
-{
-    let most = limit as u64;
     if !leads_well(word) {
-        return most + 1;
+        return None;
     }
     let mut v: u64 = 0;
-    let mut i: usize = 0;
-    while i < word.len() {
-        if !is_digit(word[i]) {
-            return most + 1;
+    for o in word {
+        if !o.is_ascii_digit() {
+            return None;
         }
-        v = further(v, word[i]);
-        if most < v {
-            return most + 1;
+        v = v * 10 + u64::from(*o - b'0');
+        if u64::from(limit) < v {
+            return None;
         }
-        i += 1;
     }
-    v
+    Some(v as u32)
 }
 
-// The number below 0 of a magnitude from 1 to 2,147,483,648; 2,147,483,648 itself, which no signed number is, for any other.
-fn below(magnitude: u64) -> i64
-    ensures { result ≡ below magnitude }
+// The number below 0 of a magnitude from 1 to 2,147,483,648.
+fn below(magnitude: u32) -> Option<i32>
+    ensures { result ≡ within_32 (below magnitude) }
 {
     if magnitude == 0 {
-        return 2147483648;
+        return None;
     }
-    if 2147483648 < magnitude {
-        return 2147483648;
-    }
-    0 - (magnitude as i64)
+    i32::try_from(-i64::from(magnitude)).ok()
 }
 
-// The signed number of 32 bits that a word writes, a `-` in front of one below 0; 2,147,483,648 where it writes none. `-0` is none.
-pub fn signed(word: &[u8]) -> i64
-    ensures { result ≡ signed_in word.now }
+// The signed number of 32 bits that a word writes, a `-` in front of one below 0. `-0` is none.
+pub fn signed(word: &[u8]) -> Option<i32>
+    ensures { result ≡ within_32 (signed_in word.now) }
 {
-    if word.len() == 0 {
-        return 2147483648;
+    match word.strip_prefix(b"-") {
+        Some(digits) => below(number(digits, 2147483648)?),
+        None => Some(number(word, 2147483647)? as i32),
     }
-    if word[0] == b'-' {
-        return below(number(&word[1..], 2147483648));
-    }
-    number(word, 2147483647) as i64
 }
 
 // ---- the value of a word of a kind, 0 where it is not of it
+// What may not change: `one_words_small`, `one_words_room` and `one_words_whole` (promises) speak of each of the three.
 
 pub fn small(word: &[u8]) -> u8
     ensures { result ≡ value_in 255 word.now }
 {
-    let n = number(word, 255);
-    if 255 < n {
-        return 0;
-    }
-    n as u8
+    number(word, 255).map_or(0, |n| n as u8)
 }
 
 pub fn room(word: &[u8]) -> usize
     ensures { result ≡ value_in 300 word.now }
 {
-    let n = number(word, 300);
-    if 300 < n {
-        return 0;
-    }
-    n as usize
+    number(word, 300).map_or(0, |n| n as usize)
 }
 
 pub fn whole(word: &[u8]) -> i32
     ensures { result ≡ whole_in word.now }
 {
-    let z = signed(word);
-    if 2147483647 < z {
-        return 0;
-    }
-    z as i32
+    signed(word).unwrap_or(0)
 }

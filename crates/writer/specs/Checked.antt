@@ -3,7 +3,7 @@ use Rattle.std.specs.Prelude.{◌≡◌, List, ℕ, T, length, take}
 use Rattle.codec.specs.Pick.{pick}
 use Rattle.codec.specs.Frame.{accepted, refused}
 use Rattle.layout.specs.declared.Record.{Record}
-use Rattle.layout.specs.declared.Answer.{Answer}
+use Rattle.layout.specs.Answer.{Answer}
 use Rattle.scope.specs.Writing.{writable, written}
 use Rattle.scope.specs.Outputs.{answer_of}
 use Rattle.writer.specs.Frames.{Laid}

@@ -4,6 +4,5 @@ pub mod Laying
 pub mod Chains
 pub mod Rows
 pub mod Frames
-pub mod Same
 pub mod Checked
 pub mod Laws

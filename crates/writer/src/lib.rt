@@ -9,6 +9,7 @@ ghost use Rattle.codec.specs.Line.{line};
 ghost use Rattle.codec.specs.Item.{nothing, flagged, chain, subfields, item};
 ghost use Rattle.codec.specs.Field.{flags, row};
 ghost use Rattle.papers.specs.Papers.{known};
+ghost use Rattle.layout.specs.Answer.{by_number};
 ghost use Rattle.layout.specs.Laws.Slots.{Holds};
 ghost use Rattle.lengths.specs.Lines.{line_at, first_at, count_at};
 ghost use Rattle.shapes.specs.Shapes.{item_at, lines_from, flags_under, in_turn};
@@ -17,14 +18,16 @@ ghost use Rattle.scope.specs.Writing.{Wrote};
 ghost use Rattle.writer.specs.Laying.{Lays};
 ghost use Rattle.writer.specs.Chains.{goes_on};
 ghost use Rattle.writer.specs.Rows.{place_on};
-ghost use Rattle.writer.specs.Same.{Tells};
 ghost use Rattle.writer.specs.Checked.{Checked, ReadBack};
-ghost use Rattle.writer.specs.Frames.{made, Laid};
+ghost use Rattle.writer.specs.Frames.{Laid};
 ghost use Rattle.papers.specs.Papers.{LONGEST};
 
 mod lines;
 
-use layout::{Answer, Field, LONGEST, Numbers, Record};
+use layout::{Answer, Field, LONGEST, Numbers, Reason, Record};
+use lines::{Laying, Slots};
+use shapes::Shape;
+use spots::Spot;
 
 // Whether a further part of a chain follows: some are defined, and the count of parts says so.
 fn goes_on(count: u8, left: usize) -> bool
@@ -36,219 +39,126 @@ fn goes_on(count: u8, left: usize) -> bool
     1 < count
 }
 
-// The chain of so many parts whose first is line b, with left further parts defined.
-fn chain(
-    numbers: &Numbers,
-    count: u8,
-    b: usize,
-    left: usize,
-    base: usize,
-    at: usize,
-    octets: &mut Field,
-) -> usize
-    requires { (b + left ≤ 300) × (base ≤ 255) × T (in_turn b (left + 1)) }
-    ensures { (zs : List ℤ) → Holds numbers.now (base + first_at b) zs → Lays (chain (line_at b) (lines_from (b + 1) left)) (count, zs) octets.old at octets.new result }
-{
-    if goes_on(count, left) {
-        let next = lines::line(numbers, b, base, 1, at, &mut *octets);
-        return chain(
-            numbers,
-            count - 1,
-            b + 1,
-            left - 1,
-            base,
-            next,
-            &mut *octets,
-        );
+impl Laying {
+    // The chain of so many parts whose first is line b, with left further parts defined.
+    fn chain(&mut self, slots: Slots, count: u8, b: usize, left: usize)
+        requires { (b + left ≤ 300) × T (in_turn b (left + 1)) }
+        ensures { (zs : List ℤ) → Holds slots.entry.numbers.now (slots.entry.base + first_at b) zs → Lays (chain (line_at b) (lines_from (b + 1) left)) (count, zs) self.old.octets self.old.at self.new.octets self.new.at }
+    {
+        if goes_on(count, left) {
+            self.line(slots, b, 1);
+            self.chain(slots, count - 1, b + 1, left - 1);
+            return;
+        }
+        self.line(slots, b, 0);
     }
-    lines::line(numbers, b, base, 0, at, &mut *octets)
-}
 
-// Subfield b, if the chain says that it is there.
-fn subfield(numbers: &Numbers, b: usize, base: usize, at: usize, octets: &mut Field) -> usize
-    requires { base ≤ 255 }
-    ensures { (zs us : List ℤ) → Holds numbers.now base zs → T (ltb (line_at b).flag (length zs)) → Holds numbers.now (base + first_at b) us → Lays (opt (nothing (count_at b)) (flagged zs (line_at b)) (line (line_at b))) (0, us) octets.old at octets.new result }
-{
-    let format = lengths::format_of(b);
-    let z = layout::number_at(numbers, base + format.flag);
-    if flags::is_one(z) {
-        return lines::line(numbers, b, base, 0, at, &mut *octets);
+    // Subfield b, if the chain says that it is there.
+    fn subfield(&mut self, slots: Slots, b: usize)
+        ensures { (zs us : List ℤ) → Holds slots.entry.numbers.now slots.entry.base zs → T (ltb (line_at b).flag (length zs)) → Holds slots.entry.numbers.now (slots.entry.base + first_at b) us → Lays (opt (nothing (count_at b)) (flagged zs (line_at b)) (line (line_at b))) (0, us) self.old.octets self.old.at self.new.octets self.new.at }
+    {
+        let format = lengths::format_of(b);
+        if flags::is_one(slots.number(format.flag)) {
+            self.line(slots, b, 0);
+        }
     }
-    at
-}
 
-// The left subfields from line b on.
-fn subfields(
-    numbers: &Numbers,
-    b: usize,
-    left: usize,
-    base: usize,
-    at: usize,
-    octets: &mut Field,
-) -> usize
-    requires { (b + left ≤ 300) × (base ≤ 255) × T (in_turn b left) }
-    ensures { (zs us : List ℤ) → Holds numbers.now base zs → T (flags_under (length zs) (lines_from b left)) → ((left ≡ 0 → ⊥) → Holds numbers.now (base + first_at b) us) → Lays (subfields zs (lines_from b left)) (0, us) octets.old at octets.new result }
-{
-    if left == 0 {
-        return at;
+    // The left subfields from line b on.
+    fn subfields(&mut self, slots: Slots, b: usize, left: usize)
+        requires { (b + left ≤ 300) × T (in_turn b left) }
+        ensures { (zs us : List ℤ) → Holds slots.entry.numbers.now slots.entry.base zs → T (flags_under (length zs) (lines_from b left)) → ((left ≡ 0 → ⊥) → Holds slots.entry.numbers.now (slots.entry.base + first_at b) us) → Lays (subfields zs (lines_from b left)) (0, us) self.old.octets self.old.at self.new.octets self.new.at }
+    {
+        if left == 0 {
+            return;
+        }
+        self.subfield(slots, b);
+        self.subfields(slots, b + 1, left - 1);
     }
-    let next = subfield(numbers, b, base, at, &mut *octets);
-    subfields(numbers, b + 1, left - 1, base, next, &mut *octets)
-}
 
-// One item of those that some paper has, with so many parts of its chain.
-fn item(numbers: &Numbers, count: u8, k: usize, base: usize, at: usize, octets: &mut Field) -> usize
-    requires { base ≤ 255 }
-    ensures { (zs : List ℤ) → Holds numbers.now base zs → Lays (item (item_at k)) (count, zs) octets.old at octets.new result }
-{
-    let shape = shapes::shape_at(k);
-    let b = shape.0;
-    let parts = shape.1;
-    if parts == 0 {
-        return lines::line(numbers, b, base, count, at, &mut *octets);
+    // One item of those that some paper has, with so many parts of its chain.
+    fn item(&mut self, slots: Slots, count: u8, k: usize)
+        ensures { (zs : List ℤ) → Holds slots.entry.numbers.now slots.entry.base zs → Lays (item (item_at k)) (count, zs) self.old.octets self.old.at self.new.octets self.new.at }
+    {
+        let Shape(b, parts, subfields) = shapes::shape_at(k);
+        if parts == 0 {
+            self.line(slots, b, count);
+            return;
+        }
+        self.chain(slots, count, b, parts - 1);
+        self.subfields(slots, b + parts, subfields);
     }
-    let next = chain(numbers, count, b, parts - 1, base, at, &mut *octets);
-    subfields(numbers, b + parts, shape.2, base, next, &mut *octets)
-}
 
-// The item at a spot, if it is there.
-fn place(
-    there: bool,
-    count: u8,
-    numbers: &Numbers,
-    k: usize,
-    at: usize,
-    octets: &mut Field,
-) -> usize
-    requires { T (spot_ok k) }
-    ensures { Lays (place_on k there) (count, numbers_on k numbers.now) octets.old at octets.new result }
-{
-    if there {
-        let spot = spots::spot_at(k);
-        return item(
-            numbers,
-            count,
-            leaves::wide(spot.0),
-            leaves::wide(spot.1),
-            at,
-            &mut *octets,
-        );
+    // The item at a spot, if it is there.
+    fn place(&mut self, there: bool, count: u8, numbers: &Numbers, k: usize)
+        requires { T (spot_ok k) }
+        ensures { Lays (place_on k there) (count, numbers_on k numbers.now) self.old.octets self.old.at self.new.octets self.new.at }
+    {
+        if there {
+            let Spot(found, base) = spots::spot_at(k);
+            self.item(Slots { numbers, base }, count, leaves::wide(found));
+        }
     }
-    at
-}
 
-// The left items from spot k on, the first of them having index i.
-fn row(
-    items: u8,
-    parts: &[u8; 8],
-    numbers: &Numbers,
-    k: usize,
-    i: usize,
-    left: usize,
-    at: usize,
-    octets: &mut Field,
-) -> usize
-    requires { (k + left ≤ 200) × (i + left ≤ 8) × T (row_ok k left) }
-    ensures { Lays (row (drop i (flags items)) (items_from k left)) (held_from k left i parts.now numbers.now) octets.old at octets.new result }
-{
-    if left == 0 {
-        return at;
+    // The left items of a record from spot k on, the first of them having index i.
+    fn row(&mut self, kept: &Record, k: usize, i: usize, left: usize)
+        requires { (k + left ≤ 200) × (i + left ≤ 8) × T (row_ok k left) }
+        ensures { Lays (row (drop i (flags kept.now.items)) (items_from k left)) (held_from k left i kept.now.parts kept.now.numbers) self.old.octets self.old.at self.new.octets self.new.at }
+    {
+        if left == 0 {
+            return;
+        }
+        let there = flags::present(kept.items, i);
+        self.place(there, kept.parts[i], &kept.numbers, k);
+        self.row(kept, k + 1, i + 1, left - 1);
     }
-    let there = flags::present(items, i);
-    let next = place(there, parts[i], numbers, k, at, &mut *octets);
-    row(
-        items,
-        parts,
-        numbers,
-        k + 1,
-        i + 1,
-        left - 1,
-        next,
-        &mut *octets,
-    )
 }
 
 // The field of a record in front of the octets, if some field reads to it.
-fn lay(cat: u8, items: u8, parts: &[u8; 8], numbers: &Numbers, octets: &mut Field)
-    requires { (known cat ≡ true) × (length octets.old ≡ LONGEST) }
-    ensures { Laid (made cat items parts.now numbers.now) octets.old octets.new }
+fn lay(kept: &Record, octets: &mut Field)
+    requires { (known kept.now.cat ≡ true) × (length octets.old ≡ LONGEST) }
+    ensures { Laid kept.now octets.old octets.new }
 {
-    let first = spots::spot_of(cat);
-    let n = layout::items_of(cat);
-    octets[1] = items;
-    let end = row(items, parts, numbers, first, 0, n, 2, &mut *octets);
-    octets[0] = leaves::octet(end);
-}
-
-// Two arrays are the same if all their elements are; as slices they tell how many there are.
-fn same_numbers(a: &Numbers, b: &Numbers) -> bool
-    ensures { Tells result a.now b.now }
-{
-    let p = &a[..];
-    let q = &b[..];
-    let mut i: usize = 0;
-    while i < p.len() {
-        if p[i] != q[i] {
-            return false;
-        }
-        i += 1;
-    }
-    true
-}
-
-// Whether two records are the same.
-fn same(a: Record, b: Record) -> bool
-    ensures { Tells result a b }
-{
-    if a.cat == b.cat {
-        if a.items == b.items {
-            let p = a.parts;
-            let q = b.parts;
-            if check::same(&p[..], &q[..]) {
-                let m = a.numbers;
-                let n = b.numbers;
-                return same_numbers(&m, &n);
-            }
-        }
-    }
-    false
+    let first = spots::spot_of(kept.cat);
+    let n = layout::items_of(kept.cat);
+    let mut field = Laying {
+        octets: *octets,
+        at: 2,
+    };
+    field.octets[1] = kept.items;
+    field.row(kept, first, 0, n);
+    field.octets[0] = leaves::octet(field.at);
+    *octets = field.octets;
 }
 
 // What the octets read to, if that is the record that was laid there; or 10.
 fn reads_back(kept: Record, octets: &[u8]) -> Answer
     requires { known kept.cat ≡ true }
-    ensures { ReadBack kept octets.now result }
+    ensures { ReadBack kept octets.now (by_number result) }
 {
     let back = reader::read(kept.cat, octets);
-    let found = back.kept;
-    if same(found, kept) {
+    if back.kept == kept {
         return back.answer;
     }
-    Answer::Refused(10, 0)
+    Err(Reason::Unwritable.at(0))
 }
 
 // The length of a record's field, which then stands in front of the octets; or 10.
 fn checked(kept: Record, octets: &mut Field) -> Answer
     requires { (known kept.cat ≡ true) × (length octets.old ≡ LONGEST) }
-    ensures { Checked kept result octets.new }
+    ensures { Checked kept (by_number result) octets.new }
 {
-    let parts = kept.parts;
-    let numbers = kept.numbers;
-    lay(kept.cat, kept.items, &parts, &numbers, &mut *octets);
+    lay(&kept, &mut *octets);
     reads_back(kept, &octets[..])
 }
 
 // A record as a field of its category: 1, 10, 11.
 pub fn write(kept: Record, out: &mut [u8]) -> Answer
-    ensures { Wrote kept out.old result out.new }
+    ensures { Wrote kept out.old (by_number result) out.new }
 {
     if layout::is_known(kept.cat) {
         let mut octets = [0u8; LONGEST];
-        let a = checked(kept, &mut octets);
-        let Answer::Accepted(n) = a else {
-            return a;
-        };
+        let n = checked(kept, &mut octets)?;
         return outputs::deliver(&octets[..n], &mut *out);
     }
-    Answer::Refused(1, 0)
+    Err(Reason::Category.at(0))
 }

@@ -3,7 +3,7 @@ use borrow.Author.Rules.{sfits_of}
 use borrow.Author.Tests.{le-ltb}
 use native.Mathlib.Nat.{le_trans, mul-le-mul, div-le_self}
 use native.Mathlib.Omega.{arith}
-use mathlib.Core.Path.{◌≡◌, refl, sym, ap, subst}
+use mathlib.Core.Path.{◌≡◌, ◌∙◌, refl, sym, ap, subst}
 use mathlib.Core.Bool.{Bool, true, false, cond}
 use Prim.Native.Nat.{ℕ, zero, suc, ◌+◌, ◌-◌, ◌*◌, ◌/◌, ◌≤◌}
 use lib.Dec.{T, ltb, leb, leb→le}
@@ -11,7 +11,7 @@ use lib.IntN.{ℤ, pos, negsuc, neg_ℤ, ◌+ℤ◌, ◌-ℤ◌, ◌*ℤ◌}
 use lib.Signed.{mag, lt_z, quot_z}
 use mir.Syntax.{w32, w64}
 use mir.Val.{SFits, to_z, of_z}
-use mir.Facts.{to_z-of_z, sfits_widen}
+use mir.Facts.{to_z-of_z}
 use Rattle.scope.specs.Angle.{rounded, udeg_of, left_of}
 use Rattle.scope.proofs.Laws.Angle.{negated_times}
 use Rattle.angle.specs.Half.{half_of}
@@ -102,54 +102,50 @@ quotient_is (negsuc n) =
     let e : suc (suc (n * 703_125 + 703_124 + 16_383)) / 32_768 ≡ rounded (suc n) = omega arith in
     rw q (ap (λ (k : ℕ). neg_ℤ (pos k)) e)
 
-pub overflow_cast-product : goal.overflow_cast-product
-overflow_cast-product c = rw (to_z-of_z c.ranges.n) (sfits_widen tt c.ranges.n)
+-- each step of the code is the integer's own
+module _ (n : ℤ) (f : SFits w32 n) (h : ℤ) (g : mag h ≤ 1_000_000) where
+  abbrev product : ℤ
+  product = n *ℤ pos 703_125
 
-pub overflow_mul-product : goal.overflow_mul-product
-overflow_mul-product c = rw (to_z-of_z (overflow_cast-product c), to_z-of_z c.ranges.n) (product_fits c.args.n _ c.ranges.n tt)
+  abbrev quotient : ℤ
+  quotient = quot_z (product +ℤ h) (pos 32_768)
 
-pub overflow_add-udeg : goal.overflow_add-udeg
-overflow_add-udeg c =
-    let half_is : to_z w64 (of_z w64 c.half.result) ≡ c.half.result =
-    to_z-of_z {w = w64} {z = c.half.result} (sfits_of c.half.type_inv) in
-    let half_size : mag c.half.result ≤ 1_000_000 =
-    subst (λ z. mag z ≤ 1_000_000) (sym c.half.ensures) (half_small _) in
-    rw (half_is, to_z-of_z (overflow_mul-product c.before), to_z-of_z (overflow_cast-product c.before), to_z-of_z c.ranges.n) (sum_fits c.args.n _ c.ranges.n tt _ half_size)
+  left_fits : SFits w64 (product -ℤ quotient *ℤ pos 32_768)
+  left_fits = difference_fits product (quotient *ℤ pos 32_768) (product_below n 703_125 f tt) (back_small n 703_125 f tt h g 32_768 tt)
 
-pub nonzero_div-udeg : goal.nonzero_div-udeg
-nonzero_div-udeg c =
-    let half_is : to_z w64 (of_z w64 c.half.result) ≡ c.half.result =
-    to_z-of_z {w = w64} {z = c.half.result} (sfits_of c.half.type_inv) in
-    let half_size : mag c.half.result ≤ 1_000_000 =
-    subst (λ z. mag z ≤ 1_000_000) (sym c.half.ensures) (half_small _) in (
-      omega arith,
-      rw (to_z-of_z (overflow_add-udeg c), half_is, to_z-of_z (overflow_mul-product c.before), to_z-of_z (overflow_cast-product c.before), to_z-of_z c.ranges.n)
-          (quotient_fits c.args.n _ c.ranges.n tt _ half_size),
-    )
+  product_is : to_z w64 (of_z w64 product) ≡ product
+  product_is = to_z-of_z (product_fits n 703_125 f tt)
 
-pub overflow_mul-result : goal.overflow_mul-result
-overflow_mul-result c =
-    let half_is : to_z w64 (of_z w64 c.half.result) ≡ c.half.result =
-    to_z-of_z {w = w64} {z = c.half.result} (sfits_of c.half.type_inv) in
-    let half_size : mag c.half.result ≤ 1_000_000 =
-    subst (λ z. mag z ≤ 1_000_000) (sym c.half.ensures) (half_small _) in
-    rw (to_z-of_z (nonzero_div-udeg c).1, to_z-of_z (overflow_add-udeg c), half_is, to_z-of_z (overflow_mul-product c.before), to_z-of_z (overflow_cast-product c.before), to_z-of_z c.ranges.n)
-    (back_fits c.args.n _ c.ranges.n tt _ half_size _ tt)
+  sum_is : to_z w64 (of_z w64 (product +ℤ h)) ≡ product +ℤ h
+  sum_is = to_z-of_z (sum_fits n 703_125 f tt h g)
+
+  quotient_is_whole : to_z w64 (of_z w64 quotient) ≡ quotient
+  quotient_is_whole = to_z-of_z (quotient_fits n 703_125 f tt h g)
+
+  back_is : to_z w64 (of_z w64 (quotient *ℤ pos 32_768)) ≡ quotient *ℤ pos 32_768
+  back_is = to_z-of_z (back_fits n 703_125 f tt h g 32_768 tt)
+
+half_size : {h : ℤ} (y : ℤ) → h ≡ half_of y → mag h ≤ 1_000_000
+half_size y e = subst (λ z. mag z ≤ 1_000_000) (sym e) (half_small y)
 
 pub overflow_sub-result : goal.overflow_sub-result
 overflow_sub-result c =
-    let half_is : to_z w64 (of_z w64 c.half.result) ≡ c.half.result =
-    to_z-of_z {w = w64} {z = c.half.result} (sfits_of c.half.type_inv) in
-    let half_size : mag c.half.result ≤ 1_000_000 =
-    subst (λ z. mag z ≤ 1_000_000) (sym c.half.ensures) (half_small _) in
-    rw (to_z-of_z (overflow_mul-result c), to_z-of_z (nonzero_div-udeg c).1, to_z-of_z (overflow_add-udeg c), half_is, to_z-of_z (overflow_mul-product c.before), to_z-of_z (overflow_cast-product c.before), to_z-of_z c.ranges.n)
-    (search (difference_fits, product_below, back_small, c.ranges.n, half_size))
+    let n_is : to_z w64 (of_z w64 c.from-product.result) ≡ c.args.n = to_z-of_z {w = w64} (sfits_of c.from-product.type_inv) ∙ c.from-product.ensures ∙ to_z-of_z c.ranges.n in
+    let half_is : to_z w64 (of_z w64 c.half.result) ≡ c.half.result = to_z-of_z {w = w64} (sfits_of c.half.type_inv) in
+    let n = c.args.n in
+    let f = c.ranges.n in
+    let h = c.half.result in
+    let g = half_size _ c.half.ensures in
+    rw (n_is, product_is n f h g, half_is, sum_is n f h g, quotient_is_whole n f h g, back_is n f h g) (left_fits n f h g)
 
 pub returns : goal.returns
 unfolding left_of
 returns c =
-    let half_is : to_z w64 (of_z w64 c.half.result) ≡ c.half.result =
-    to_z-of_z {w = w64} {z = c.half.result} (sfits_of c.half.type_inv) in
-    let x = c.args.n in
-    rw (to_z-of_z (overflow_sub-result c), to_z-of_z (overflow_mul-result c), to_z-of_z (nonzero_div-udeg c).1, to_z-of_z (overflow_add-udeg c), half_is, c.half.ensures, to_z-of_z (overflow_mul-product c.before), to_z-of_z (overflow_cast-product c.before), to_z-of_z c.ranges.n)
-    (quotient_is x, ap (λ q. x *ℤ pos 703_125 -ℤ q *ℤ pos 32_768) (quotient_is x))
+    let n_is : to_z w64 (of_z w64 c.from-product.result) ≡ c.args.n = to_z-of_z {w = w64} (sfits_of c.from-product.type_inv) ∙ c.from-product.ensures ∙ to_z-of_z c.ranges.n in
+    let half_is : to_z w64 (of_z w64 c.half.result) ≡ c.half.result = to_z-of_z {w = w64} (sfits_of c.half.type_inv) in
+    let n = c.args.n in
+    let f = c.ranges.n in
+    let h = c.half.result in
+    let g = half_size _ c.half.ensures in
+    rw (n_is, product_is n f h g, half_is, sum_is n f h g, quotient_is_whole n f h g, back_is n f h g, to_z-of_z (left_fits n f h g), c.half.ensures, n_is, product_is n f h g)
+    (quotient_is n, ap (λ q. n *ℤ pos 703_125 -ℤ q *ℤ pos 32_768) (quotient_is n))

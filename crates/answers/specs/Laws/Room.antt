@@ -10,13 +10,9 @@ use Rattle.codec.specs.Meaning.{len_of}
 use Rattle.codec.proofs.Laws.Tests.{and_l}
 use Rattle.codec.proofs.Laws.Codec.{octets_cons}
 use Rattle.papers.specs.Papers.{known, paper_of, items_of}
-use Rattle.layout.specs.declared.Answer.{Answer}
-use Rattle.layout.specs.declared.Answer.TheVariants.{Accepted, Refused}
+use Rattle.layout.specs.Answer.{Answer, Accepted, Refused, View, Shown, Hidden, which_number}
 use Rattle.layout.specs.declared.Record.{Record}
-use Rattle.layout.specs.declared.View.{View}
-use Rattle.layout.specs.declared.View.TheVariants.{Shown, Hidden}
 use Rattle.layout.specs.declared.Which.TheVariants.{Neither, Base, Correction}
-use Rattle.layout.specs.Answer.{which_number}
 use Rattle.scope.specs.Reading.{read_of, field_of}
 use Rattle.scope.specs.Outputs.{with_room}
 use Rattle.scope.specs.Writing.{writable, written, write_of}
@@ -35,10 +31,8 @@ use Rattle.guess.specs.Guess.{rebuild_of}
 use Rattle.guess.proofs.Laws.Rebuilt.{rebuilt_few}
 use Rattle.hex_words.specs.Octets.{is_octets, octet_of, octets_of, octets_in, list_in}
 use Rattle.protocol.specs.Line.{words_of, nth}
-use Rattle.protocol.specs.Forms.{parse_of}
+use Rattle.protocol.specs.Forms.{Judged, Asks, Wrong, parse_of}
 use Rattle.protocol.specs.Record.{record_in}
-use Rattle.protocol.specs.declared.Judged.{Judged}
-use Rattle.protocol.specs.declared.Judged.TheVariants.{Asks, Wrong}
 use Rattle.replies.specs.Texts.{bad_request, output_text, reading_text, choice_text}
 use Rattle.answers.specs.Laws.Texts.{bad_most, refusal_most, view_most, choice_most, read_most, output_most, given_most, sheet_most}
 use Rattle.answers.specs.Answers.{listed, read_answer, write_answer, sheet_answer, view_answer, choose_answer, remove_answer, replace_answer, copy_answer, rebuild_answer, asked, said, answer_of}

@@ -3,12 +3,8 @@ use Rattle.std.specs.Prelude.{◌≡◌, refl, List, [], ◌∷◌, ◌++◌, �
 use Rattle.std.proofs.Common.{arith, length-append, length-take}
 use Rattle.codec.specs.Frame.{Outcome, accepted, refused}
 use Rattle.papers.specs.Papers.{SLOTS, LONGEST}
-use Rattle.layout.specs.declared.Answer.{Answer}
-use Rattle.layout.specs.declared.Answer.TheVariants.{Accepted, Refused}
-use Rattle.layout.specs.declared.View.{View}
-use Rattle.layout.specs.declared.View.TheVariants.{Shown, Hidden}
+use Rattle.layout.specs.Answer.{Answer, Accepted, Refused, View, Shown, Hidden, length_of}
 use Rattle.layout.specs.declared.Record.{Record}
-use Rattle.layout.specs.Answer.{length_of}
 use Rattle.scope.specs.Outputs.{answer_of}
 use Rattle.scope.specs.Rebuilding.{octets_given}
 use Rattle.scope.specs.Sheet.{signed_decimal}

@@ -9,4 +9,4 @@ use Rattle.arrays.proofs.record_of.Goals as goal
 
 pub returns : goal.returns
 returns c =
-    record_made c.args.a.now (c.octet.ensures ∙ ap octet_of (to_z-of_z {w = w32} (sfits_of c.octet-arg-1.given))) (c.octet-2.ensures ∙ ap octet_of (to_z-of_z {w = w32} (sfits_of c.octet-arg-2-1.given))) c.narrow.ensures c.copy.ensures
+    record_made c.args.a.now (c.octet.ensures ∙ ap octet_of (to_z-of_z {w = w32} (sfits_of c.octet-arg-1.given))) (c.octet-2.ensures ∙ ap octet_of (to_z-of_z {w = w32} (sfits_of c.octet-arg-2-1.given))) c.narrow.ensures c.copy_from_slice.ensures.after

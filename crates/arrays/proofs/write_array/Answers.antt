@@ -16,21 +16,21 @@ use Rattle.arrays.proofs.write_array.Goals as goal
 tested : {z : ℤ} {o : ℕ} {b t : Bool} → SFits w32 z → o ≡ octet_of (to_z w32 (of_z w32 z)) → t ≡ known o → t ≡ b → known (octet_of z) ≡ b
 tested f eo et h = sym (et ∙ ap known (eo ∙ ap octet_of (to_z-of_z {w = w32} f))) ∙ h
 
-pub returns-then-are_octets : goal.returns-then-are_octets
-returns-then-are_octets c =
-    let a = c.args in
-    array_written a.a.now a.out.now c.if-a-eq-PLACES.true (tested (sfits_of c.octet-arg-1.given) c.octet.ensures c.is_known.ensures c.if-is_known.true)
-    (sym c.are_octets.ensures ∙ c.if-are_octets.true) c.record_of.ensures c.write.ensures
+pub returns-then-a-ne-PLACES : goal.returns-then-a-ne-PLACES
+returns-then-a-ne-PLACES c = rw c.at.ensures (array_length c.args.a.now c.args.out.now c.if-a-ne-PLACES.true)
 
-pub returns-then-is_known : goal.returns-then-is_known
-returns-then-is_known c =
+pub returns-then-not-is_known : goal.returns-then-not-is_known
+returns-then-not-is_known c =
     let a = c.args in
-    array_parts a.a.now a.out.now c.if-a-eq-PLACES.true (tested (sfits_of c.octet-arg-1.given) c.octet.ensures c.is_known.ensures c.if-is_known.true) (sym c.are_octets.ensures ∙ c.if-are_octets.false)
+    rw c.at-then-not-is_known.ensures (array_unknown a.a.now a.out.now c.if-a-ne-PLACES.false (tested (sfits_of c.octet-arg-1.given) c.octet.ensures c.is_known.ensures c.if-not-is_known.true))
 
-pub returns-then-a-eq-PLACES : goal.returns-then-a-eq-PLACES
-returns-then-a-eq-PLACES c =
+pub returns-then-not-are_octets : goal.returns-then-not-are_octets
+returns-then-not-are_octets c =
     let a = c.args in
-    array_unknown a.a.now a.out.now c.if-a-eq-PLACES.true (tested (sfits_of c.octet-arg-1.given) c.octet.ensures c.is_known.ensures c.if-is_known.false)
+    rw c.at-then-not-are_octets.ensures (array_parts a.a.now a.out.now c.if-a-ne-PLACES.false (tested (sfits_of c.octet-arg-1.given) c.octet.ensures c.is_known.ensures c.if-not-is_known.false) (sym c.are_octets.ensures ∙ c.if-not-are_octets.true))
 
 pub returns : goal.returns
-returns c = let a = c.args in array_length a.a.now a.out.now c.if-a-eq-PLACES.false
+returns c =
+    let a = c.args in
+    array_written a.a.now a.out.now c.if-a-ne-PLACES.false (tested (sfits_of c.octet-arg-1.given) c.octet.ensures c.is_known.ensures c.if-not-is_known.false)
+    (sym c.are_octets.ensures ∙ c.if-not-are_octets.false) c.record_of.ensures c.write.ensures

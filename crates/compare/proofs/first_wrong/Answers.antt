@@ -1,65 +1,40 @@
--- `compare::first_wrong` meets its contract: from each place that the loop reaches the first wrong line is the same. Assumes nothing.
-use mathlib.Core.Path.{refl, sym, ◌∙◌}
-use Prim.Native.Nat.{◌+◌}
-use native.Mathlib.Omega.{arith}
-use lib.ListN.{get_or}
-use Rattle.compare.specs.Laws.Compared.{counted_most, wrong_end, wrong_more_text, wrong_less-text, wrong_here, wrong_on}
+-- From each place that the loop reaches the first wrong line is the same.
+use Rattle.std.proofs.Common.{inl, inr, length, ap, ◌∙◌, sym, arith}
+use Rattle.compare.specs.Lines.{line_of}
+use Rattle.compare.specs.Laws.Compared.{wrong_none, wrong_end, wrong_here, wrong_feed, wrong_on}
 use Rattle.compare.proofs.first_wrong.Goals as goal
 
-pub loop-i-init : goal.loop-i-init
-loop-i-init c = (refl, omega arith)
+pub returns-then-a-b : goal.returns-then-a-b
+returns-then-a-b c =
+    let left = c.in-Some.ensures.steps in
+    wrong_here _ left.0 left.1 c.loop-a.invariant.from_one c.if-a-b.true ∙ ap line_of (sym c.loop-a.invariant.answer)
 
-pub overflow_add-result : goal.overflow_add-result
-overflow_add-result c = omega arith
+pub loop-a-preserved-then-a-eq10 : goal.loop-a-preserved-then-a-eq10
+loop-a-preserved-then-a-eq10 c =
+    let left = c.in-Some.ensures.steps in
+    let ahead = ap length left.0 in
+    let behind = ap length left.1 in
+    record {
+      answer = c.loop-a.invariant.answer ∙ wrong_feed _ left.0 left.1 c.if-a-b.false c.if-a-eq10.true;
+      from_one = omega arith;
+      few = omega arith;
+      abreast = omega arith;
+    }
 
-pub returns-then-i-t : goal.returns-then-i-t
-returns-then-i-t c =
-    let a = c.args in
-    wrong_less-text (c.loop-i.k + 1) a.s.now a.t.now c.loop-i.i (omega arith) (omega arith) ∙ sym c.loop-i.invariant.0
+pub loop-a-preserved : goal.loop-a-preserved
+loop-a-preserved c =
+    let left = c.in-Some.ensures.steps in
+    let ahead = ap length left.0 in
+    let behind = ap length left.1 in
+    record {
+      answer = c.loop-a.invariant.answer ∙ wrong_on _ left.0 left.1 c.if-a-b.false c.if-a-eq10.false;
+      from_one = c.loop-a.invariant.from_one;
+      few = omega arith;
+      abreast = omega arith;
+    }
 
-pub bounds-s-i : goal.bounds-s-i
-bounds-s-i c = omega arith
-
-pub bounds-t-i : goal.bounds-t-i
-bounds-t-i c = omega arith
-
-pub overflow_add-result-then-s-i : goal.overflow_add-result-then-s-i
-overflow_add-result-then-s-i c = omega arith
-
-pub returns-then-s-i : goal.returns-then-s-i
-returns-then-s-i c =
-    let a = c.args in
-    wrong_here (c.loop-i.k + 1) a.s.now a.t.now c.loop-i.i (omega arith) (omega arith) c.if-s-i.true ∙ sym c.loop-i.invariant.0
-
-pub bounds-s-i-in-loop-i : goal.bounds-s-i-in-loop-i
-bounds-s-i-in-loop-i c = omega arith
-
-pub count-k-requires : goal.count-k-requires
-count-k-requires c = omega (arith, c.loop-i.invariant.1)
-
-pub overflow_add-i : goal.overflow_add-i
-overflow_add-i c = omega arith
-
-pub loop-i-smaller : goal.loop-i-smaller
-loop-i-smaller c = omega arith
-
-pub loop-i-preserved : goal.loop-i-preserved
-loop-i-preserved c =
-    let a = c.args in
-    let s = a.s.now in (
-      c.loop-i.invariant.0 ∙ wrong_on c.loop-i.k s a.t.now c.loop-i.i (omega arith) (omega arith) c.if-s-i.false c.count-k.ensures,
-      omega (arith, c.loop-i.invariant.1, c.count-k.ensures, counted_most c.loop-i.k (get_or s c.loop-i.i 0)),
-    )
-
-pub overflow_add-result-then-i-t-2 : goal.overflow_add-result-then-i-t-2
-overflow_add-result-then-i-t-2 c = omega arith
-
-pub returns-then-i-t-2 : goal.returns-then-i-t-2
-returns-then-i-t-2 c =
-    let a = c.args in
-    wrong_more_text (c.loop-i.k + 1) a.s.now a.t.now c.loop-i.i (omega arith) (omega arith) ∙ sym c.loop-i.invariant.0
+pub returns-then-s-t : goal.returns-then-s-t
+returns-then-s-t c = wrong_none _ _ _ (omega (arith, c.in-None.ensures.steps)) (omega (arith, c.in-None.ensures.steps)) ∙ ap line_of (sym c.loop-a.invariant.answer)
 
 pub returns : goal.returns
-returns c =
-    let a = c.args in
-    wrong_end (c.loop-i.k + 1) a.s.now a.t.now c.loop-i.i (omega arith) (omega arith) ∙ sym c.loop-i.invariant.0
+returns c = wrong_end _ _ _ c.loop-a.invariant.from_one (elim c.in-None.ensures.steps [ inl x ↦ inl x.1.0 | inr x ↦ inr x.1.0 ]) (λ e. omega arith) ∙ ap line_of (sym c.loop-a.invariant.answer)

@@ -1,78 +1,74 @@
--- The comparison of two texts by place: one law for each way through the code.
-use Rattle.std.specs.Prelude.{◌≡◌, Bool, List, ℕ, suc, ◌+◌, ◌≤◌, ◌<◌, eqb, length, get_or, drop}
-use Rattle.std.proofs.Math.Path.{refl, ap}
-use Rattle.std.proofs.Common.{sym, ◌∙◌, add-one}
-use Rattle.std.proofs.Math.Bool.{true, false}
-use native.Mathlib.Omega.{arith}
-use borrow.Author.Tests.{eq-eqb, ne_eqb}
-use Rattle.std.proofs.Math.ListN.{drop_of_length-le}
-use Rattle.std.proofs.Math.Seq.{drop-cons}
-use Rattle.codec.specs.Pick.{pick}
+-- The comparison of two texts: one law for each way through the code.
+use Rattle.std.specs.Prelude.{◌≡◌, Bool, true, false, ◌&&◌, List, [], ◌∷◌, Some, None, ltb, ℕ, ◌+◌, ◌<◌, ◌⊎◌, eqb, length, take}
+use Rattle.std.proofs.Common.{refl, sym, ap, ◌∙◌, arith, inl, inr}
+use Rattle.std.proofs.Math.Numerals.{add-one}
+use Rattle.std.specs.Cmp.Lexicographic.{pointwise}
+use Rattle.std.proofs.lemmas.Bool.{lt-ltb, ltb-true, ltb-false}
+use Rattle.std.specs.Bool.{then_some}
+use borrow.Author.Tests.{eq-eqb, ne_eqb, eqb-true, eqb-false}
 use Rattle.guess.specs.Guess.{begins, first_wrong}
-use Rattle.compare.specs.Lines.{counted}
+use Rattle.compare.specs.Lines.{line_of}
 
 -- ---- whether a text begins with a word
 
-pub begins_end : (w t : List ℕ) (i : ℕ) → length w ≤ i → true ≡ begins (drop i w) (drop i t)
-unfolding begins
-begins_end w t i h = rw (drop_of_length-le w h) refl
-
-module _ (w t : List ℕ) (i : ℕ) (h : i < length w) where
-  pub begins_short : length t ≤ i → false ≡ begins (drop i w) (drop i t)
-  unfolding begins
-  begins_short k = rw (drop-cons w i 0 h, drop_of_length-le t k) refl
-
-  module _ (k : i < length t) where
-    pub begins_other : (get_or t i 0 ≡ get_or w i 0 → ⊥) → false ≡ begins (drop i w) (drop i t)
-    unfolding begins
-    begins_other e = rw (drop-cons w i 0 h, drop-cons t i 0 k, ne_eqb (get_or t i 0) (get_or w i 0) e) refl
-
-    pub begins_more : get_or t i 0 ≡ get_or w i 0 → begins (drop i w) (drop i t) ≡ begins (drop (i + 1) w) (drop (i + 1) t)
-    unfolding begins
-    begins_more e = rw (add-one i, drop-cons w i 0 h, drop-cons t i 0 k, eq-eqb (get_or t i 0) (get_or w i 0) e) refl
-
--- ---- the comparison
-
-pub counted_feed : (k o : ℕ) → o ≡ 10 → k + 1 ≡ counted k o
-unfolding counted
-counted_feed k o e = rw (eq-eqb o 10 e) (omega arith)
-
-pub counted_other : (k o : ℕ) → (o ≡ 10 → ⊥) → k ≡ counted k o
-unfolding counted
-counted_other k o e = rw (ne_eqb o 10 e) refl
-
-pub counted_most : (k o : ℕ) → counted k o ≤ k + 1
-unfolding counted
-counted_most k o = go (eqb o 10)
+turned : (o x : ℕ) → eqb o x ≡ eqb x o
+turned o x = by_test (eqb x o) refl
   where
-    go : (b : Bool) → pick b (suc k) k ≤ k + 1
-    go true = omega arith
-    go false = omega arith
+    by_test : (b : Bool) → eqb x o ≡ b → eqb o x ≡ b
+    by_test true t = eq-eqb o x (sym (eqb-true x o t))
+    by_test false t = ne_eqb o x (λ e. eqb-false x o t (sym e))
 
-pub wrong_end : (k : ℕ) (s t : List ℕ) (i : ℕ) → length s ≤ i → length t ≤ i → 0 ≡ first_wrong k (drop i s) (drop i t)
+pub begins_is : (w t : List ℕ) → pointwise eqb w (take (length w) t) ≡ begins w t
+unfolding begins
+begins_is [] t = refl
+begins_is (o ∷ w) [] = refl
+begins_is (o ∷ w) (x ∷ t) = ap (λ b. b && pointwise eqb w (take (length w) t)) (turned o x) ∙ ap (λ b. eqb x o && b) (begins_is w t)
+
+-- ---- the comparison, k being the line that stands here
+
+is_line : {n k : ℕ} → n ≡ k → 0 < k → Some k ≡ line_of n
+is_line {n} {k} e h = rw (e, lt-ltb 0 k h) refl
+
+pub wrong_none : (k : ℕ) (s t : List ℕ) → length s ≡ 0 → length t ≡ 0 → None ≡ line_of (first_wrong k s t)
 unfolding first_wrong
-wrong_end k s t i h g = rw (drop_of_length-le s h, drop_of_length-le t g) refl
+wrong_none k [] [] e f = refl
+wrong_none k [] (y ∷ t) e f = absurd (omega arith)
+wrong_none k (x ∷ s) t e f = absurd (omega arith)
 
-pub wrong_more_text : (k : ℕ) (s t : List ℕ) (i : ℕ) → length s ≤ i → i < length t → k ≡ first_wrong k (drop i s) (drop i t)
+pub wrong_end : (k : ℕ) (s t : List ℕ) → 0 < k → (length s ≡ 0) ⊎ (length t ≡ 0) → (length s ≡ length t → ⊥) → Some k ≡ line_of (first_wrong k s t)
 unfolding first_wrong
-wrong_more_text k s t i h g = rw (drop_of_length-le s h, drop-cons t i 0 g) refl
+wrong_end k [] [] h e f = absurd (f refl)
+wrong_end k [] (y ∷ t) h e f = is_line refl h
+wrong_end k (x ∷ s) [] h e f = is_line refl h
+wrong_end k (x ∷ s) (y ∷ t) h (inl e) f = absurd (omega arith)
+wrong_end k (x ∷ s) (y ∷ t) h (inr e) f = absurd (omega arith)
 
-module _ (k : ℕ) (s t : List ℕ) (i : ℕ) (h : i < length s) where
-  pub wrong_less-text : length t ≤ i → k ≡ first_wrong k (drop i s) (drop i t)
+-- the octets that stand here, and what is left
+module _ (k : ℕ) {s t : List ℕ} {x y : ℕ} {r u : List ℕ} (es : s ≡ x ∷ r) (et : t ≡ y ∷ u) where
+  pub wrong_here : 0 < k → (x ≡ y → ⊥) → Some k ≡ line_of (first_wrong k s t)
   unfolding first_wrong
-  wrong_less-text g = rw (drop-cons s i 0 h, drop_of_length-le t g) refl
+  wrong_here h n = is_line (rw (es, et, ne_eqb x y n) refl) h
 
-  module _ (g : i < length t) where
-    pub wrong_here : (get_or s i 0 ≡ get_or t i 0 → ⊥) → k ≡ first_wrong k (drop i s) (drop i t)
-    unfolding first_wrong
-    wrong_here e = rw (drop-cons s i 0 h, drop-cons t i 0 g, ne_eqb (get_or s i 0) (get_or t i 0) e) refl
+  pub wrong_feed : x ≡ y → x ≡ 10 → first_wrong k s t ≡ first_wrong (k + 1) r u
+  unfolding first_wrong
+  wrong_feed e f = rw (add-one k, es, et, eq-eqb x y e, eq-eqb x 10 f) refl
 
-    pub wrong_on : get_or s i 0 ≡ get_or t i 0 → {j : ℕ} → j ≡ counted k (get_or s i 0) → first_wrong (k + 1) (drop i s) (drop i t) ≡ first_wrong (j + 1) (drop (i + 1) s) (drop (i + 1) t)
-    unfolding first_wrong counted
-    wrong_on e {j} ej =
-        rw (add-one i, drop-cons s i 0 h, drop-cons t i 0 g, eq-eqb (get_or s i 0) (get_or t i 0) e)
-        (ap (λ n. first_wrong n (drop (suc i) s) (drop (suc i) t)) (one_more (eqb (get_or s i 0) 10) ∙ ap (◌+ 1) (sym ej)))
-      where
-        one_more : (b : Bool) → pick b (suc (k + 1)) (k + 1) ≡ pick b (suc k) k + 1
-        one_more true = omega arith
-        one_more false = refl
+  pub wrong_on : x ≡ y → (x ≡ 10 → ⊥) → first_wrong k s t ≡ first_wrong k r u
+  unfolding first_wrong
+  wrong_on e n = rw (es, et, eq-eqb x y e, ne_eqb x 10 n) refl
+
+-- ---- what the answer says of the line: nothing is lost
+
+pub line_none : (n : ℕ) → line_of n ≡ None → n ≡ 0
+line_none n e = by_test (ltb 0 n) refl e
+  where
+    by_test : (b : Bool) → ltb 0 n ≡ b → then_some b n ≡ None → n ≡ 0
+    by_test true t u = cc
+    by_test false t u = omega (arith, ltb-false 0 n t)
+
+pub line_some : (n k : ℕ) → line_of n ≡ Some k → (k ≡ n) × (k ≡ 0 → ⊥)
+line_some n k e = by_test (ltb 0 n) refl e
+  where
+    by_test : (b : Bool) → ltb 0 n ≡ b → then_some b n ≡ Some k → (k ≡ n) × (k ≡ 0 → ⊥)
+    by_test true t u = let same : n ≡ k = cc in (sym same, λ z. omega (arith, ltb-true 0 n t))
+    by_test false t u = cc

@@ -13,10 +13,8 @@ use Rattle.codec.specs.Change.{Change}
 use Rattle.codec.proofs.Laws.Behind.{Whole, len_front, behind_read}
 use Rattle.papers.specs.Names.{text, names_of}
 use Rattle.papers.specs.Papers.{known, paper_of}
-use Rattle.layout.specs.declared.View.{View}
-use Rattle.layout.specs.declared.View.TheVariants.{Shown, Hidden}
+use Rattle.layout.specs.Answer.{View, Shown, Hidden, Accepted}
 use Rattle.layout.specs.declared.Which.TheVariants.{Neither}
-use Rattle.layout.specs.declared.Answer.TheVariants.{Accepted}
 use Rattle.layout.specs.Record.{flatten}
 use Rattle.scope.specs.Reading.{field_of, shown, read_of}
 use Rattle.scope.specs.Views.{view_in, view_of, part_of, choose_in, choose_of}

@@ -28,8 +28,7 @@ use Rattle.codec.proofs.Laws.Change.{new_octets, new_flag, put_in_lem}
 use Rattle.papers.specs.Papers.{LONGEST, known, paper_of, printed_of, items_of}
 use Rattle.papers.proofs.Laws.Papers.{made_paper, right_paper, good_paper, few_printed, few_items, few_octets, some_octets_lem}
 use Rattle.layout.specs.declared.Record.{Record}
-use Rattle.layout.specs.declared.Reading.{Reading}
-use Rattle.layout.specs.declared.Answer.TheVariants.{Accepted}
+use Rattle.layout.specs.Answer.{Reading, Accepted}
 use Rattle.layout.specs.Record.{flatten}
 use Rattle.scope.specs.Reading.{field_of, read_of}
 use Rattle.scope.specs.Writing.{writable, written, write_of}

@@ -22,8 +22,7 @@ use Rattle.papers.specs.Notation.{bits, part}
 use Rattle.papers.specs.Papers.{known, paper_of, printed_of, SLOTS, all_slots}
 use Rattle.papers.proofs.Laws.Papers.{good_paper, made_paper, right_paper, few_printed}
 use Rattle.layout.specs.declared.Record.{Record}
-use Rattle.layout.specs.declared.Reading.{Reading}
-use Rattle.layout.specs.declared.Answer.TheVariants.{Accepted}
+use Rattle.layout.specs.Answer.{Reading, Accepted}
 use Rattle.layout.specs.Record.{all_parts, all_numbers, flatten}
 use Rattle.layout.specs.Laws.Record.{length_parts, length_numbers, lawful_contents}
 use Rattle.scope.specs.Reading.{field_of, read_of}

@@ -10,9 +10,7 @@ use Rattle.codec.specs.Meaning.{len_of}
 use Rattle.codec.specs.Change.{Change}
 use Rattle.codec.proofs.Laws.Behind.{Whole}
 use Rattle.papers.specs.Papers.{paper_of, longest_of}
-use Rattle.layout.specs.declared.Reading.{Reading}
-use Rattle.layout.specs.declared.Answer.{Answer}
-use Rattle.layout.specs.declared.Answer.TheVariants.{Accepted}
+use Rattle.layout.specs.Answer.{Reading, Answer, Accepted}
 use Rattle.scope.specs.Reading.{read_of}
 use Rattle.scope.specs.Outputs.{with_room, answer_of, after}
 use Rattle.scope.specs.Desk.{Edited}

@@ -10,7 +10,7 @@ use Rattle.codec.specs.Frame.{accepted}
 use Rattle.codec.specs.Meaning.{len_of}
 use Rattle.papers.specs.Papers.{known, paper_of, items_of}
 use Rattle.layout.specs.declared.Record.{Record}
-use Rattle.layout.specs.declared.View.TheVariants.{Shown}
+use Rattle.layout.specs.Answer.{Shown}
 use Rattle.scope.specs.Outputs.{with_room, answer_of, after}
 use Rattle.scope.specs.Writing.{writable, written, write_of}
 use Rattle.scope.specs.Views.{is_item, standing, view_of, part_of, side_of, chosen_of}

@@ -11,8 +11,7 @@ use Rattle.codec.specs.Frame.{Outcome, accepted, refused}
 use Rattle.codec.specs.Meaning.{len_of}
 use Rattle.papers.specs.Names.{text}
 use Rattle.layout.specs.declared.Record.{Record}
-use Rattle.layout.specs.declared.Reading.{Reading}
-use Rattle.layout.specs.declared.Answer.TheVariants.{Accepted}
+use Rattle.layout.specs.Answer.{Reading, Accepted}
 use Rattle.layout.specs.Laws.Answer.{Refused≢Accepted}
 use Rattle.scope.specs.Outputs.{answer_of, after}
 use Rattle.scope.specs.Sheet.{sheet_of}

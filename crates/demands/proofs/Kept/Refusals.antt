@@ -20,8 +20,7 @@ use Rattle.codec.proofs.Laws.Frame.{frame_octets}
 use Rattle.papers.specs.Papers.{known, paper_of, items_of}
 use Rattle.papers.proofs.Laws.Papers.{few_items}
 use Rattle.layout.specs.declared.Record.{Record}
-use Rattle.layout.specs.declared.Answer.TheVariants.{Refused}
-use Rattle.layout.specs.declared.View.TheVariants.{Hidden}
+use Rattle.layout.specs.Answer.{Refused, Hidden}
 use Rattle.layout.specs.declared.Which.{Which}
 use Rattle.layout.specs.Laws.Record.{lawful_contents}
 use Rattle.scope.specs.Reading.{field_of, shown, read_of}

@@ -17,8 +17,7 @@ use Rattle.codec.specs.Meaning.{len_of}
 use Rattle.codec.proofs.Laws.Tests.{holds}
 use Rattle.papers.specs.Papers.{known, paper_of, items_of}
 use Rattle.layout.specs.declared.Record.{Record}
-use Rattle.layout.specs.declared.Answer.TheVariants.{Accepted}
-use Rattle.layout.specs.Answer.{view_number}
+use Rattle.layout.specs.Answer.{Accepted, view_number}
 use Rattle.scope.specs.Reading.{field_of}
 use Rattle.scope.specs.Outputs.{with_room, answer_of, after}
 use Rattle.scope.specs.Views.{is_item, view_of, part_of}

@@ -5,9 +5,9 @@ use Rattle.desk.proofs.exchanged.Goals as goal
 pub spliced-requires : goal.spliced-requires
 spliced-requires c =
     let a = c.args in
-    exchange_parts a.field.now a.len a.starts a.item a.new.now c.wide-i.ensures.0 c.wide-from.ensures.0 c.wide-to.ensures.0 c.requires
+    exchange_parts a.field.now a.found.len a.found.starts a.item a.new.now c.wide-i.ensures.0 c.wide-from.ensures.0 c.wide-to.ensures.0 c.requires
 
 pub returns : goal.returns
 returns c =
     let a = c.args in
-    exchange_leaves a.field.now a.len a.starts a.item a.new.now c.wide-i.ensures.0 c.wide-from.ensures.0 c.wide-to.ensures.0 a.items c.spliced.ensures
+    exchange_leaves a.field.now a.found.len a.found.starts a.item a.new.now c.wide-i.ensures.0 c.wide-from.ensures.0 c.wide-to.ensures.0 a.items c.spliced.ensures

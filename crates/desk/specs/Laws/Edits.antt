@@ -24,8 +24,7 @@ use Rattle.codec.proofs.Laws.Longest.{field_size}
 use Rattle.codec.proofs.Laws.Change.{Splice, new_octets, new_flag, spliced}
 use Rattle.papers.specs.Papers.{LONGEST, known, paper_of, items_of}
 use Rattle.papers.proofs.Laws.Papers.{good_paper, few_items, few_octets}
-use Rattle.layout.specs.declared.Answer.{Answer}
-use Rattle.layout.specs.declared.Answer.TheVariants.{Accepted, Refused}
+use Rattle.layout.specs.Answer.{Answer, Accepted, Refused, Surveyed}
 use Rattle.scope.specs.Reading.{field_of}
 use Rattle.scope.specs.Outputs.{with_room, Leaves}
 use Rattle.scope.specs.Views.{is_item}
@@ -33,7 +32,6 @@ use Rattle.scope.specs.Desk.{listed, is_accepted, right_of, item_is, afresh, edi
 use Rattle.layout.specs.Laws.Answer.{Refused≢Accepted, Accepted≢Refused}
 use Rattle.scope.proofs.Laws.Reading.{Read, read_made, read_front, read_okay}
 use Rattle.scope.proofs.Laws.Views.{field_is, front_length, item_in}
-use Rattle.layout.specs.declared.Surveyed.{Surveyed}
 use Rattle.scope.specs.Survey.{starts_from, surveyed, survey_of}
 use Rattle.reader.specs.Laws.Surveys.{begins, ends}
 use Rattle.desk.specs.Asking.{asked_of}
@@ -58,10 +56,10 @@ module _ (cat : ℕ) (s : List ℕ) (list item : ℕ) {v : Surveyed} (ev : v ≡
     pub allowed_yes : no ≡ 0 → v ≡ allowed_of cat s list item
     allowed_yes z = sym (by_number ∙ ap (λ m. with_number m v) z)
 
-    pub allowed_no : (no ≡ 0 → ⊥) → ◌≡◌ {A = Surveyed} (record { answer = Refused no 0; items = v.items; starts = v.starts }) (allowed_of cat s list item)
+    pub allowed_no : (no ≡ 0 → ⊥) → ◌≡◌ {A = Surveyed} (record { answer = Refused no 0; items = 0; starts = replicate 9 0 }) (allowed_of cat s list item)
     allowed_no h = go no h ∙ sym by_number
       where
-        go : (m : ℕ) → (m ≡ 0 → ⊥) → ◌≡◌ {A = Surveyed} (record { answer = Refused m 0; items = v.items; starts = v.starts }) (with_number m v)
+        go : (m : ℕ) → (m ≡ 0 → ⊥) → ◌≡◌ {A = Surveyed} (record { answer = Refused m 0; items = 0; starts = replicate 9 0 }) (with_number m v)
         go zero h = absurd (h refl)
         go (suc m) h = refl
 

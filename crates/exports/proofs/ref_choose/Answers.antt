@@ -1,7 +1,7 @@
 -- `exports::ref_choose` meets its contract. Assumes nothing.
 use mathlib.Core.Path.{sym, ap, ◌∙◌, subst}
 use native.Mathlib.Omega.{arith}
-use Rattle.layout.specs.declared.Choice.{Choice}
+use Rattle.layout.specs.Answer.{Choice, view_by_number}
 use Rattle.codec.proofs.Laws.Codec.{octets_all}
 use Rattle.interface.specs.Packed.{side_word, choice_word}
 use Rattle.interface.proofs.Laws.Fits.{FitView, choose_fits}
@@ -16,4 +16,4 @@ side_word-requires c =
 pub returns : goal.returns
 unfolding choice_word
 returns c =
-    c.side_word.ensures ∙ ap (λ n. side_word n c.choose_answer-c.result.view) c.which_number.ensures ∙ ap choice_word c.choose_answer-c.ensures
+    c.side_word.ensures ∙ ap (λ n. side_word n (view_by_number c.choose_answer-c.result.view)) c.from.ensures ∙ ap choice_word c.choose_answer-c.ensures

@@ -12,9 +12,9 @@ pub answer_word-requires : goal.answer_word-requires
 answer_word-requires c =
     let a = c.args in
     let s = a.field.now in
-    subst FitAnswer (sym c.read_array-done.ensures.0) (fill_fits (length a.out.now) (read_of a.cat s).answer (read_fits a.cat s (octets_all s (λ i. omega (arith, c.type_inv.field i)))))
+    subst FitAnswer (sym c.read_array.ensures.0) (fill_fits (length a.out.now) (read_of a.cat s).answer (read_fits a.cat s (octets_all s (λ i. omega (arith, c.type_inv.field i)))))
 
 pub returns : goal.returns
 returns c =
     let a = c.args in
-    fills-by (read_of a.cat a.field.now) a.out.now c.read_array-done.ensures c.answer_word.ensures
+    fills-by (read_of a.cat a.field.now) a.out.now c.read_array.ensures c.answer_word.ensures

@@ -13,10 +13,10 @@ pub answer_word-requires : goal.answer_word-requires
 unfolding new_octets
 answer_word-requires c =
     let a = c.args in
-    subst FitAnswer (sym c.remove-done.ensures.answer)
+    subst FitAnswer (sym c.remove.ensures.answer)
     (edit_fits a.cat a.field.now a.list a.item remove (length a.out.now) (octets_all a.field.now (λ i. omega (arith, c.type_inv.field i))) tt)
 
 pub returns : goal.returns
 returns c =
-    let d = c.remove-done.ensures in
+    let d = c.remove.ensures in
     record { word = c.answer_word.ensures ∙ ap answer_word d.answer; output = d.output }

@@ -13,10 +13,10 @@ pub answer_word-requires : goal.answer_word-requires
 unfolding new_octets
 answer_word-requires c =
     let a = c.args in
-    subst FitAnswer (sym c.replace-done.ensures.answer)
+    subst FitAnswer (sym c.replace.ensures.answer)
     (edit_fits a.cat a.field.now a.list a.item (put a.new.now) (length a.out.now) (octets_all a.field.now (λ i. omega (arith, c.type_inv.field i))) (octets_all a.new.now (λ i. omega (arith, c.type_inv.new i))))
 
 pub returns : goal.returns
 returns c =
-    let d = c.replace-done.ensures in
+    let d = c.replace.ensures in
     record { word = c.answer_word.ensures ∙ ap answer_word d.answer; output = d.output }

@@ -10,9 +10,9 @@ use Rattle.exports.proofs.ref_sheet.Goals as goal
 pub answer_word-requires : goal.answer_word-requires
 answer_word-requires c =
     let a = c.args in
-    subst FitAnswer (sym c.sheet-done.ensures.answer) (sheet_fits a.input.now (octets_all a.input.now (λ i. omega (arith, c.type_inv.input i))) (length a.out.now))
+    subst FitAnswer (sym c.sheet.ensures.answer) (sheet_fits a.input.now (octets_all a.input.now (λ i. omega (arith, c.type_inv.input i))) (length a.out.now))
 
 pub returns : goal.returns
 returns c =
-    let d = c.sheet-done.ensures in
+    let d = c.sheet.ensures in
     record { word = c.answer_word.ensures ∙ ap answer_word d.answer; output = d.output }

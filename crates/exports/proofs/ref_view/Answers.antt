@@ -9,8 +9,8 @@ use Rattle.exports.proofs.ref_view.Goals as goal
 pub side_word-requires : goal.side_word-requires
 side_word-requires c =
     let a = c.args in
-    subst FitView (sym c.view_answer-v.ensures) (view_fits a.cat a.field.now (octets_all a.field.now (λ i. omega (arith, c.type_inv.field i))) a.item)
+    subst FitView (sym c.view_answer.ensures) (view_fits a.cat a.field.now (octets_all a.field.now (λ i. omega (arith, c.type_inv.field i))) a.item)
 
 pub returns : goal.returns
 unfolding view_word
-returns c = c.side_word.ensures ∙ ap view_word c.view_answer-v.ensures
+returns c = c.side_word.ensures ∙ ap view_word c.view_answer.ensures

@@ -8,9 +8,9 @@ use Rattle.exports.proofs.ref_write.Goals as goal
 pub answer_word-requires : goal.answer_word-requires
 answer_word-requires c =
     let a = c.args in
-    subst FitAnswer (sym c.write_array-done.ensures.answer) (write_fits a.a.now (length a.out.now))
+    subst FitAnswer (sym c.write_array.ensures.answer) (write_fits a.a.now (length a.out.now))
 
 pub returns : goal.returns
 returns c =
-    let d = c.write_array-done.ensures in
+    let d = c.write_array.ensures in
     record { word = c.answer_word.ensures ∙ ap answer_word d.answer; output = d.output }

@@ -22,9 +22,7 @@ use Rattle.codec.proofs.Laws.Longest.{field_size}
 use Rattle.papers.specs.Names.{text, names_of}
 use Rattle.papers.specs.Papers.{known, paper_of, LONGEST}
 use Rattle.papers.proofs.Laws.Papers.{few_octets}
-use Rattle.layout.specs.Answer.{number_of, place_of, length_of}
-use Rattle.layout.specs.declared.Reading.{Reading}
-use Rattle.layout.specs.declared.Answer.TheVariants.{Accepted}
+use Rattle.layout.specs.Answer.{number_of, place_of, length_of, Reading, Accepted}
 use Rattle.scope.specs.Reading.{field_of, read_of}
 use Rattle.scope.specs.Rebuilding.{long, line_wrong, length_wrong, no_room, category_given, octets_given}
 use Rattle.scope.specs.Rebuilding as rebuilding

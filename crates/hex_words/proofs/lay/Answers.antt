@@ -1,50 +1,27 @@
--- `hex::lay` meets its contract: from each place that the loop reaches the array comes to hold the same. Assumes nothing.
-use mathlib.Core.Path.{refl, sym, ap, ◌∙◌}
-use Prim.Native.Nat.{◌+◌, ◌*◌}
-use native.Mathlib.Omega.{arith}
-use lib.ListN.{drop}
-use lib.Seq.{sets}
+-- The pairs that are left go where they went from the start.
+use Rattle.std.proofs.Common.{◌≡◌, length, set, sym, ap, ap₂, ◌∙◌, arith, length-append}
+use Rattle.std.proofs.lemmas.List.Edits.{sets}
 use Rattle.hex_words.specs.Octets.{octets_of}
-use Rattle.hex_words.specs.Laws.Octets.{lay_end, lay_more}
+use Rattle.hex_words.specs.Laws.Octets.{lay_more, lay_end}
 use Rattle.hex_words.proofs.lay.Goals as goal
-
-pub loop-i-init : goal.loop-i-init
-loop-i-init c = refl
-
-pub overflow_mul-i : goal.overflow_mul-i
-overflow_mul-i c = omega arith
-
-pub bounds-word-i : goal.bounds-word-i
-bounds-word-i c = omega arith
-
-pub overflow_mul-i-in-loop-i : goal.overflow_mul-i-in-loop-i
-overflow_mul-i-in-loop-i c = omega arith
-
-pub overflow_add-i : goal.overflow_add-i
-overflow_add-i c = omega arith
-
-pub bounds-word-i-in-loop-i : goal.bounds-word-i-in-loop-i
-bounds-word-i-in-loop-i c = omega arith
-
-pub octet-requires : goal.octet-requires
-octet-requires c = tt
-
-pub put-requires : goal.put-requires
-put-requires c = omega arith
-
-pub overflow_add-i-in-loop-i : goal.overflow_add-i-in-loop-i
-overflow_add-i-in-loop-i c = omega arith
-
-pub loop-i-smaller : goal.loop-i-smaller
-loop-i-smaller c = omega arith
 
 pub loop-i-preserved : goal.loop-i-preserved
 loop-i-preserved c =
-    let w = c.args.word.now in
-    c.loop-i.invariant
-    ∙ lay_more w c.loop-i.out c.loop-i.i (omega arith) c.octet.ensures
-    ∙ ap (λ m. sets m (c.loop-i.i + 1) (octets_of (drop (2 * (c.loop-i.i + 1)) w))) (sym c.put.ensures)
+    let told = c.in-Some.ensures.steps in
+    let pair = c.in-Some.pair.now in
+    let rest = c.next.new.self.iter.rest.now in
+    let two : length pair ≡ 2 = told.0.1.1 ∙ c.loop-i.invariant.pairs in
+    let long = ap length told.0.1.0 ∙ length-append pair rest in
+    record {
+      pairs = told.0.0 ∙ c.loop-i.invariant.pairs;
+      few = omega (arith, c.loop-i.invariant.few, two, long, told.2);
+      laid = c.loop-i.invariant.laid
+          ∙ ap (λ w. sets c.loop-i.out c.loop-i.i-iterator.count (octets_of w)) told.0.1.0
+          ∙ lay_more pair rest c.loop-i.out c.loop-i.i-iterator.count two c.octet.ensures
+          ∙ ap₂ (λ n m. sets (set c.loop-i.out n c.octet.result) m (octets_of rest)) (sym told.1) (sym told.2);
+    }
 
 pub returns : goal.returns
 returns c =
-    sym (c.loop-i.invariant ∙ lay_end c.args.word.now c.loop-i.out c.loop-i.i (omega arith))
+    let told = c.in-None.ensures.steps in
+    sym (c.loop-i.invariant.laid ∙ lay_end c.loop-i.i-iterator.iter.rest.now c.loop-i.out c.loop-i.i-iterator.count (omega (arith, told.0.1.0, c.loop-i.invariant.pairs)))

@@ -1,28 +1,16 @@
--- `hex::list` meets its contract: one law at each way out. Assumes nothing.
-use mathlib.Core.Path.{◌≡◌, ◌∙◌, sym}
-use mathlib.Core.Bool.{true}
-use native.Mathlib.Omega.{arith}
-use Rattle.hex_words.specs.Octets.{is_list}
+-- A list has its two digits.
+use Rattle.std.proofs.Common.{sym, ap, ◌∙◌, arith, Some}
 use Rattle.hex_words.specs.Laws.Octets.{list_pair, list_value, list_none}
 use Rattle.hex_words.proofs.list.Goals as goal
 
 pub bounds-word-0 : goal.bounds-word-0
-bounds-word-0 c =
-    let is_one_lem : is_list c.args.word.now ≡ true =
-    sym c.is_list.ensures ∙ c.if-is_list.true in
-    omega (arith, list_pair c.args.word.now is_one_lem)
+bounds-word-0 c = omega (arith, list_pair c.args.word.now (sym c.is_list.ensures ∙ c.if-is_list.true))
 
 pub bounds-word-1 : goal.bounds-word-1
-bounds-word-1 c =
-    let is_one_lem : is_list c.args.word.now ≡ true =
-    sym c.is_list.ensures ∙ c.if-is_list.true in
-    omega (arith, list_pair c.args.word.now is_one_lem)
+bounds-word-1 c = omega (arith, list_pair c.args.word.now (sym c.is_list.ensures ∙ c.if-is_list.true))
 
 pub returns-then-is_list : goal.returns-then-is_list
-returns-then-is_list c =
-    let is_one_lem : is_list c.args.word.now ≡ true =
-    sym c.is_list.ensures ∙ c.if-is_list.true in
-    c.octet.ensures ∙ list_value c.args.word.now is_one_lem
+returns-then-is_list c = ap Some c.octet.ensures ∙ list_value c.args.word.now (sym c.is_list.ensures ∙ c.if-is_list.true)
 
-pub returns : goal.returns
-returns c = list_none c.args.word.now (sym c.is_list.ensures ∙ c.if-is_list.false)
+pub returns-else-is_list : goal.returns-else-is_list
+returns-else-is_list c = list_none c.args.word.now (sym c.is_list.ensures ∙ c.if-is_list.false)

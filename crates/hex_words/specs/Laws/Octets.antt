@@ -1,13 +1,15 @@
 -- The octets that a word writes: pairs of hex digits in either case, at most 4,096 pairs, or `-` for none.
-use Rattle.std.specs.Prelude.{◌≡◌, Bool, ◌&&◌, List, [], ◌∷◌, ℕ, suc, ◌+◌, ◌-◌, ◌*◌, ◌/◌, ◌%◌, ◌≤◌, ◌<◌, leb, eqb, length, get_or, take, drop, set}
+use Rattle.std.specs.Prelude.{◌≡◌, Option, Some, None, is_some, unwrap_or, ltb, Bool, ◌&&◌, List, [], ◌∷◌, ◌++◌, ℕ, ◌+◌, ◌-◌, ◌/◌, ◌%◌, ◌≤◌, ◌<◌, leb, eqb, length, get_or, take, drop, set}
 use Rattle.std.proofs.Math.Path.{refl}
-use Rattle.std.proofs.Common.{sym, ap, ap₂, ◌∙◌, add-one, arith, length-drop, length-take, drop_of_length-le}
+use Rattle.std.proofs.Common.{sym, ap, ap₂, ◌∙◌, add-one, arith, length-take}
 use Rattle.std.proofs.Math.Bool.{true, false}
-use borrow.Author.Tests.{eq-eqb, ne_eqb, le-leb, lt-leb, lt-ltb, le-ltb, leb-true, eqb-true}
-use Rattle.std.proofs.Math.Seq.{drop-cons, take-append_seam}
+use borrow.Author.Tests.{eq-eqb, ne_eqb, le-leb, lt-leb, lt-ltb, leb-true, ltb-true, ltb-false, eqb-true}
+use Rattle.std.proofs.Math.Seq.{take-append_seam}
 use Rattle.std.proofs.lemmas.List.Edits.{sets, sets-eq}
 use Rattle.codec.specs.Pick.{pick}
-use Rattle.hex_words.specs.Octets.{between, hex_digit, are_hex, is_octets, octet_of, octets_of, octets_in, is_list, list_in}
+use Rattle.std.specs.Bool.{then_some}
+use Rattle.std.specs.List.{list_all}
+use Rattle.hex_words.specs.Octets.{between, hex_digit, digit_in, are_hex, is_octets, octet_of, octets_of, octets_in, is_list, list_in}
 
 -- ---- the ways out of `hex_digit`
 
@@ -54,20 +56,60 @@ module _ (o : ℕ) where
   unfolding hex_digit
   hex_behind h = rw (over 48 57 o (omega arith), over 65 70 o (omega arith), over 97 102 o h) refl
 
--- ---- the ways through `are_hex`
+-- as code gives it
+pub digit_some : (o n : ℕ) → n ≡ hex_digit o → n < 16 → Some n ≡ digit_in (hex_digit o)
+digit_some o n e h = rw (sym e, lt-ltb n 16 h) refl
 
-module _ (w : List ℕ) (i : ℕ) (h : i < length w) {d : ℕ} (ed : d ≡ hex_digit (get_or w i 0)) where
-  pub hex_other : 15 < d → are_hex (drop i w) ≡ false
-  unfolding are_hex
-  hex_other k = rw (drop-cons w i 0 h, ← ed, le-ltb d 16 k) refl
+pub digit_none : (o : ℕ) → 16 ≡ hex_digit o → None ≡ digit_in (hex_digit o)
+digit_none o e = rw (sym e) refl
 
-  pub hex_more : d ≤ 15 → are_hex (drop i w) ≡ are_hex (drop (i + 1) w)
-  unfolding are_hex
-  hex_more k = rw (add-one i, drop-cons w i 0 h, ← ed, lt-ltb d 16 (omega arith)) refl
+pub ruleset hex_ways = (hex_number, hex_capital, hex_small, hex_before, hex_second, hex_third, hex_behind, digit_some, digit_none)
 
-pub hex_end : (w : List ℕ) (i : ℕ) → length w ≤ i → are_hex (drop i w) ≡ true
+-- no octet has more than 16
+hex_most : (o : ℕ) → hex_digit o ≤ 16
+unfolding hex_digit
+hex_most o = one (leb 48 o) (leb o 57) (leb-true o 57) (two 65 (leb 65 o) (leb o 70) (leb-true o 70) (two 97 (leb 97 o) (leb o 102) (leb-true o 102) (omega arith)))
+  where
+    one : (a b : Bool) → (b ≡ true → o ≤ 57) → {n : ℕ} → n ≤ 16 → pick (a && b) (o - 48) n ≤ 16
+    one true true f h = omega (arith, f refl)
+    one true false f h = h
+    one false b f h = h
+
+    two : (low : ℕ) (a b : Bool) → (b ≡ true → o ≤ low + 5) → {n : ℕ} → n ≤ 16 → pick (a && b) (o - low + 10) n ≤ 16
+    two low true true f h = omega (arith, f refl)
+    two low true false f h = h
+    two low false b f h = h
+
+-- nothing is lost: a digit, or 16, is got back
+pub digit_told : (o : ℕ) → unwrap_or (digit_in (hex_digit o)) 16 ≡ hex_digit o
+digit_told o = by_size (hex_digit o) (hex_most o)
+  where
+    by_size : (n : ℕ) → n ≤ 16 → unwrap_or (digit_in n) 16 ≡ n
+    by_size n h = by_test (ltb n 16) refl
+      where
+        by_test : (b : Bool) → ltb n 16 ≡ b → unwrap_or (then_some b n) 16 ≡ n
+        by_test true t = refl
+        by_test false t = omega (arith, ltb-false n 16 t)
+
+-- 0 where it is none
+pub digit_value : (o : ℕ) → unwrap_or (digit_in (hex_digit o)) 0 ≡ hex_digit o % 16
+digit_value o = by_size (hex_digit o) (hex_most o)
+  where
+    by_size : (n : ℕ) → n ≤ 16 → unwrap_or (digit_in n) 0 ≡ n % 16
+    by_size n h = by_test (ltb n 16) refl
+      where
+        by_test : (b : Bool) → ltb n 16 ≡ b → unwrap_or (then_some b n) 0 ≡ n % 16
+        by_test true t = omega (arith, ltb-true n 16 t)
+        by_test false t = let e : n ≡ 16 = omega (arith, ltb-false n 16 t) in rw e refl
+
+pub hex_all : (w : List ℕ) → list_all (λ o. is_some (digit_in (hex_digit o))) w ≡ are_hex w
 unfolding are_hex
-hex_end w i h = rw (drop_of_length-le w h) refl
+hex_all [] = refl
+hex_all (o ∷ w) = ap₂ (λ a b. a && b) (is_digit (ltb (hex_digit o) 16) (hex_digit o)) (hex_all w)
+  where
+    is_digit : (b : Bool) (n : ℕ) → is_some (then_some b n) ≡ b
+    is_digit true n = refl
+    is_digit false n = refl
 
 -- ---- the ways out of `is_octets`
 
@@ -92,27 +134,24 @@ module _ (w : List ℕ) (one : length w ≡ 1 → ⊥) where
   unfolding is_octets
   octets_even h k e = rw (ne_eqb (length w) 1 one, le-leb 1 (length w) h, le-leb (length w) 8_192 k, eq-eqb (length w % 2) 0 e) refl
 
+pub ruleset octets_ways = (octets_sign, octets_empty, octets_long, octets_odd, octets_even)
+
 -- ---- the ways through `lay`
 
--- what is left of the word has fewer than two digits
-few : (w : List ℕ) (out : List ℕ) (i : ℕ) → length w < 2 → sets out i (octets_of w) ≡ out
+-- a pair goes in front of the octets that are left
+pub lay_more : (pair rest out : List ℕ) (i : ℕ) → length pair ≡ 2 → {o : ℕ} → o ≡ octet_of (get_or pair 0 0) (get_or pair 1 0) → sets out i (octets_of (pair ++ rest)) ≡ sets (set out i o) (i + 1) (octets_of rest)
 unfolding octets_of
-few [] out i h = refl
-few (a ∷ []) out i h = refl
-few (a ∷ b ∷ w) out i h = absurd (omega arith)
+lay_more [] rest out i h eo = absurd (omega arith)
+lay_more (a ∷ []) rest out i h eo = absurd (omega arith)
+lay_more (a ∷ b ∷ []) rest out i h eo = rw (add-one i, eo) refl
+lay_more (a ∷ b ∷ c ∷ w) rest out i h eo = absurd (omega arith)
 
-pub lay_end : (w out : List ℕ) (i : ℕ) → length w / 2 ≤ i → sets out i (octets_of (drop (2 * i) w)) ≡ out
-lay_end w out i h = few (drop (2 * i) w) out i (omega (arith, length-drop (2 * i) w))
-
-pub lay_more : (w out : List ℕ) (i : ℕ) → i < length w / 2 → {o : ℕ} → o ≡ octet_of (get_or w (2 * i) 0) (get_or w (2 * i + 1) 0)
-    → sets out i (octets_of (drop (2 * i) w)) ≡ sets (set out i o) (i + 1) (octets_of (drop (2 * (i + 1)) w))
+-- fewer than two digits are left
+pub lay_end : (rest out : List ℕ) (i : ℕ) → length rest < 2 → sets out i (octets_of rest) ≡ out
 unfolding octets_of
-lay_more w out i h {o} eo =
-    let j : 2 * (i + 1) ≡ suc (suc (2 * i)) = omega arith in
-    let k : 2 * i + 1 ≡ suc (2 * i) = omega arith in
-    let e : drop (2 * i) w ≡ get_or w (2 * i) 0 ∷ get_or w (suc (2 * i)) 0 ∷ drop (suc (suc (2 * i))) w =
-    drop-cons w (2 * i) 0 (omega arith) ∙ ap (λ t. get_or w (2 * i) 0 ∷ t) (drop-cons w (suc (2 * i)) 0 (omega arith)) in
-    rw (e, j, add-one i, eo, k) refl
+lay_end [] out i h = refl
+lay_end (a ∷ []) out i h = refl
+lay_end (a ∷ b ∷ w) out i h = absurd (omega arith)
 
 pub octets_length : (w : List ℕ) → length (octets_of w) ≡ length w / 2
 unfolding octets_of
@@ -137,15 +176,15 @@ octets_most w e = by_one (eqb (length w) 1) refl e
     by_one false k u = by_long (leb (length w) 8_192) refl (leb 1 (length w)) (eqb (length w % 2) 0 && are_hex w) u
 
 -- how many they are and what the array comes to hold
-abbrev Lays : List ℕ → List ℕ → ℕ → List ℕ → Type 0
-Lays w out n m = (n ≡ length (octets_in w)) × (m ≡ sets out 0 (octets_in w))
+abbrev Lays : List ℕ → List ℕ → Option ℕ → List ℕ → Type 0
+Lays w out n m = (n ≡ then_some (is_octets w) (length (octets_in w))) × (m ≡ sets out 0 (octets_in w))
 
 module _ (w out : List ℕ) where
-  pub octets_there : is_octets w ≡ true → {m : List ℕ} → m ≡ sets out 0 (octets_of w) → Lays w out (length w / 2) m
+  pub octets_there : is_octets w ≡ true → {m : List ℕ} → m ≡ sets out 0 (octets_of w) → Lays w out (Some (length w / 2)) m
   unfolding octets_in
-  octets_there e em = rw e (sym (octets_length w), em)
+  octets_there e em = rw e (ap Some (sym (octets_length w)), em)
 
-  pub octets_none : is_octets w ≡ false → Lays w out 0 out
+  pub octets_none : is_octets w ≡ false → Lays w out None out
   unfolding octets_in
   octets_none e = rw e (refl, refl)
 
@@ -159,14 +198,26 @@ octets_few w = by_form (is_octets w) refl
     by_form true t = omega (arith, octets_most w t, octets_length w)
     by_form false t = omega arith
 
-module _ (w b : List ℕ) (eb : 4_096 ≡ length b) {n : ℕ} {m : List ℕ} (x : Lays w b n m) where
+-- how many, 0 where there are none
+octets_told : (w : List ℕ) → unwrap_or (then_some (is_octets w) (length (octets_in w))) 0 ≡ length (octets_in w)
+unfolding octets_in
+octets_told w = by_form (is_octets w)
+  where
+    by_form : (b : Bool) → unwrap_or (then_some b (length (pick b (octets_of w) []))) 0 ≡ length (pick b (octets_of w) [])
+    by_form true = refl
+    by_form false = refl
+
+module _ (w b : List ℕ) (eb : 4_096 ≡ length b) {o : Option ℕ} {n : ℕ} {m : List ℕ} (x : Lays w b o m) (en : n ≡ unwrap_or o 0) where
+  counted : n ≡ length (octets_in w)
+  counted = en ∙ ap (λ o. unwrap_or o 0) x.0 ∙ octets_told w
+
   pub octets_taken : take n m ≡ octets_in w
   octets_taken =
-      ap₂ take x.0 (x.1 ∙ sets-eq (octets_in w) b 0 (omega (arith, octets_few w)))
+      ap₂ take counted (x.1 ∙ sets-eq (octets_in w) b 0 (omega (arith, octets_few w)))
       ∙ take-append_seam (octets_in w) (drop (0 + length (octets_in w)) b)
 
   pub octets_counted : n ≡ length (take n m)
-  octets_counted = x.0 ∙ ap length (sym octets_taken)
+  octets_counted = counted ∙ ap length (sym octets_taken)
 
   pub octets_held : n ≤ length m
   octets_held = omega (arith, octets_counted, length-take n m)
@@ -182,6 +233,8 @@ module _ (w : List ℕ) where
   unfolding is_list
   list_form e = rw (eq-eqb (length w) 2 e) refl
 
+  pub ruleset list_ways = (list_other, list_form)
+
   -- a list has its two digits
   pub list_pair : is_list w ≡ true → length w ≡ 2
   unfolding is_list
@@ -191,10 +244,18 @@ module _ (w : List ℕ) where
       both true b e = refl
       both false b e = e
 
-  pub list_value : is_list w ≡ true → octet_of (get_or w 0 0) (get_or w 1 0) ≡ list_in w
+  pub list_value : is_list w ≡ true → Some (octet_of (get_or w 0 0) (get_or w 1 0)) ≡ then_some (is_list w) (list_in w)
   unfolding list_in
   list_value t = rw t refl
 
-  pub list_none : is_list w ≡ false → 0 ≡ list_in w
-  unfolding list_in
+  pub list_none : is_list w ≡ false → None ≡ then_some (is_list w) (list_in w)
   list_none t = rw t refl
+
+  -- 0 where there is none
+  pub list_told : unwrap_or (then_some (is_list w) (list_in w)) 0 ≡ list_in w
+  unfolding list_in
+  list_told = by_form (is_list w)
+    where
+      by_form : (b : Bool) → unwrap_or (then_some b (pick b (octet_of (get_or w 0 0) (get_or w 1 0)) 0)) 0 ≡ pick b (octet_of (get_or w 0 0) (get_or w 1 0)) 0
+      by_form true = refl
+      by_form false = refl

@@ -15,10 +15,9 @@ use Rattle.codec.proofs.Laws.Change.{new_octets}
 use Rattle.codec.proofs.Laws.Tests.{and_l, and_r, and_in, holds}
 use Rattle.papers.specs.Papers.{known}
 use Rattle.layout.specs.declared.Record.{Record}
-use Rattle.layout.specs.declared.Answer.{Answer}
+use Rattle.layout.specs.Answer.{Answer, number_of, place_of, length_of, view_number, view_place, view_length, which_number}
 use Rattle.layout.specs.declared.Which.{Which}
 use Rattle.layout.specs.declared.Which.TheVariants.{Neither, Base, Correction}
-use Rattle.layout.specs.Answer.{number_of, place_of, length_of, view_number, view_place, view_length, which_number}
 use Rattle.scope.specs.Reading.{read_of}
 use Rattle.scope.specs.Writing.{writable, written, write_of}
 use Rattle.scope.specs.Outputs.{with_room, answer_of}

@@ -15,14 +15,8 @@ use Rattle.codec.proofs.Laws.Longest.{field_size}
 use Rattle.papers.specs.Papers.{known, paper_of, items_of}
 use Rattle.papers.proofs.Laws.Papers.{few_octets}
 use Rattle.layout.specs.declared.Record.{Record}
-use Rattle.layout.specs.declared.Reading.{Reading}
-use Rattle.layout.specs.declared.Answer.{Answer}
-use Rattle.layout.specs.declared.Answer.TheVariants.{Accepted, Refused}
-use Rattle.layout.specs.declared.View.{View}
-use Rattle.layout.specs.declared.View.TheVariants.{Shown, Hidden}
+use Rattle.layout.specs.Answer.{Reading, Answer, Accepted, Refused, View, Shown, Hidden, Choice, place_of, length_of, view_place, view_length}
 use Rattle.layout.specs.declared.Which.TheVariants.{Neither, Base, Correction}
-use Rattle.layout.specs.declared.Choice.{Choice}
-use Rattle.layout.specs.Answer.{place_of, length_of, view_place, view_length}
 use Rattle.layout.specs.Record.{contents}
 use Rattle.scope.specs.Reading.{field_of, read_of}
 use Rattle.scope.specs.Writing.{writable, written, write_of}

@@ -2,11 +2,7 @@
 use Rattle.std.specs.Prelude.{◌≡◌, ℕ, ◌^◌, ◌/◌, ◌%◌, ◌<◌}
 use Rattle.std.proofs.Math.Path.{subst}
 use Rattle.std.proofs.Common.{arith}
-use Rattle.layout.specs.declared.Answer.{Answer}
-use Rattle.layout.specs.declared.Answer.TheVariants.{Accepted, Refused}
-use Rattle.layout.specs.declared.View.{View}
-use Rattle.layout.specs.declared.View.TheVariants.{Shown, Hidden}
-use Rattle.layout.specs.Answer.{number_of, place_of, length_of, view_number, view_place, view_length}
+use Rattle.layout.specs.Answer.{Answer, Accepted, Refused, View, Shown, Hidden, number_of, place_of, length_of, view_number, view_place, view_length}
 use Rattle.interface.specs.Packed.{word_of, Fit, beside_word, side_word}
 
 pub record Tells (w number which place size : ℕ) : Type 0 where

@@ -1,6 +1,7 @@
 -- `layout::is_known` meets its contract, by the law of each category. Assumes nothing.
 use mathlib.Core.Path.{sym}
-use mathlib.Core.Logic.{⊎_elim, inl, inr}
+use mathlib.Core.Logic.{⊎_elim}
+use borrow.Author.Rules.{rules}
 use Rattle.papers.proofs.Laws.Papers.{paper_048, paper_021, paper_007, paper_none}
 use Rattle.layout.proofs.is_known.Goals as goal
 
@@ -11,5 +12,4 @@ returns-in-48 c =
     c.in-48.is
 
 pub returns-in_default : goal.returns-in_default
-returns-in_default c =
-    sym (paper_none c.args.cat (λ e. c.in_default.in_default-own.rest.1 (inr (inr e))) (λ e. c.in_default.in_default-own.rest.1 (inr (inl e))) (λ e. c.in_default.in_default-own.rest.1 (inl e))).1
+returns-in_default c = sym (paper_none c.args.cat (search rules) (search rules) (search rules)).1

@@ -1,5 +1,6 @@
 -- `layout::longest_of` meets its contract, by the law of each category. Assumes nothing.
 use mathlib.Core.Path.{sym, ap, ◌∙◌}
+use borrow.Author.Rules.{rules}
 use Rattle.codec.specs.Field.{longest}
 use Rattle.papers.proofs.Laws.Papers.{paper_048, paper_021, paper_007, paper_none, numbers_048, numbers_021, numbers_007, numbers_none}
 use Rattle.layout.proofs.longest_of.Goals as goal
@@ -14,5 +15,4 @@ pub returns-in-7 : goal.returns-in-7
 returns-in-7 c = sym (ap longest (paper_007 c.args.cat c.in-7.is).0 ∙ numbers_007.1)
 
 pub returns-in_default : goal.returns-in_default
-returns-in_default c =
-    sym (ap longest (paper_none c.args.cat c.in_default.in_default-own.rest.0.0.1 c.in_default.in_default-own.rest.0.1 c.in_default.in_default-own.rest.1).0 ∙ numbers_none.1)
+returns-in_default c = sym (ap longest (paper_none c.args.cat (search rules) (search rules) (search rules)).0 ∙ numbers_none.1)

@@ -1,5 +1,6 @@
 -- `layout::spare_of` meets its contract, by the indicator that each paper prints. Assumes nothing.
 use mathlib.Core.Path.{refl}
+use borrow.Author.Rules.{rules}
 use borrow.Author.Tests.{ne_eqb}
 use Rattle.codec.specs.Mask.{spares_of}
 use Rattle.papers.specs.Papers.{indicator_of}
@@ -21,5 +22,4 @@ pub returns-in_default : goal.returns-in_default
 unfolding spares_of indicator_of
 returns-in_default c =
     let cat = c.args.cat in
-    let rest = c.in_default.in_default-own.rest in
-    rw (ne_eqb cat 48 rest.0.0.1, ne_eqb cat 21 rest.0.1, ne_eqb cat 7 rest.1) refl
+    rw (ne_eqb cat 48 (search rules), ne_eqb cat 21 (search rules), ne_eqb cat 7 (search rules)) refl

@@ -1,13 +1,12 @@
 -- One law for each way through the code.
-use Rattle.std.specs.Prelude.{◌≡◌, Bool, true, false, List, ℕ, ◌+◌, ◌≤◌, ◌<◌, ltb, get_or, drop, set}
+use Rattle.std.specs.Prelude.{◌≡◌, Bool, true, false, Option, None, Some, List, [], ◌∷◌, ℕ, ◌+◌, eqb, ◌≤◌, ◌<◌, ltb, get_or, drop, set}
 use Rattle.std.proofs.Math.Path.{refl, ap}
-use Rattle.std.proofs.Common.{◌∙◌, length-set, drop_of_length-le, drop-cons}
+use Rattle.std.proofs.Common.{◌∙◌, add_assoc, length-set, drop_of_length-le, drop-cons}
 use Rattle.std.proofs.Math.Numerals.{add-one}
 use borrow.Author.Tests.{lt-ltb, le-ltb, eq-eqb, ne_eqb}
 use Rattle.std.proofs.Math.ListN.{length}
 use Rattle.codec.specs.Pick.{pick}
-use Rattle.lines.specs.Joining.{more, put_in, Keeps, join_of, line_after}
-use Rattle.lines.specs.declared.Joined.{Joined}
+use Rattle.lines.specs.Joining.{more, put_in, Keeps, join_of, line_after, Joined, joined}
 
 -- ---- of `keep`
 
@@ -51,3 +50,22 @@ module _ (room : ℕ) (s : List ℕ) (at n : ℕ) (line : List ℕ) where
         rw (drop-cons s at 0 h, ne_eqb (get_or s at 0) 10 e, q, add-one at) refl,
         rw (drop-cons s at 0 h, ne_eqb (get_or s at 0) 10 e, p, q, add-one at) refl,
       )
+
+-- the place of the first octet is only counted on from
+pub join_from : (room : ℕ) (s : List ℕ) (n at from : ℕ) → join_of room s n (from + at) ≡ record (join_of room s n at) { at = from + (join_of room s n at).at }
+unfolding join_of
+join_from room [] n at from = refl
+join_from room (o ∷ s) n at from = by_feed (eqb o 10) (join_from room s (more room n) (at + 1) from)
+  where
+    by_feed : (b : Bool) → join_of room s (more room n) (from + (at + 1)) ≡ record (join_of room s (more room n) (at + 1)) { at = from + (join_of room s (more room n) (at + 1)).at }
+        → pick b (record { at = (from + at) + 1; held = n; ended = true }) (join_of room s (more room n) ((from + at) + 1))
+        ≡ record (pick b (record { at = at + 1; held = n; ended = true }) (join_of room s (more room n) (at + 1))) { at = from + (pick b (record { at = at + 1; held = n; ended = true }) (join_of room s (more room n) (at + 1))).at }
+    by_feed true e = rw (add_assoc from at 1) refl
+    by_feed false e = rw (add_assoc from at 1) e
+
+-- what `join` says decides its result
+pub joined_one : (all n m : ℕ) (r r' : Option ℕ) → joined all n r ≡ joined all m r' → (r ≡ r') × (n ≡ m)
+joined_one all n m None None e = (refl, ap (λ (j : Joined). j.held) e)
+joined_one all n m None (Some b) e = let f : ◌≡◌ {A = Bool} false true = ap (λ (j : Joined). j.ended) e in absurd cc
+joined_one all n m (Some a) None e = let f : ◌≡◌ {A = Bool} true false = ap (λ (j : Joined). j.ended) e in absurd cc
+joined_one all n m (Some a) (Some b) e = (ap (λ (j : Joined). Some j.at) e, ap (λ (j : Joined). j.held) e)

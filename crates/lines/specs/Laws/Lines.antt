@@ -8,8 +8,7 @@ use Rattle.std.proofs.Math.Seq.{take-append_seam}
 use Rattle.std.proofs.lemmas.List.{set_split}
 use Rattle.codec.specs.Pick.{pick}
 use Rattle.lines.specs.Lines.{ended, left, held}
-use Rattle.lines.specs.Joining.{more, put_in, join_of, line_after}
-use Rattle.lines.specs.declared.Joined.{Joined}
+use Rattle.lines.specs.Joining.{more, put_in, join_of, line_after, Joined}
 
 -- ---- what an array with n octets in its front holds of a line
 
@@ -86,6 +85,21 @@ place_further room (o ∷ s) n at h = by_feed (eqb o 10) (place_later room s (mo
     by_feed : (b : Bool) → at + 1 ≤ (join_of room s (more room n) (at + 1)).at → at < (pick b (record { at = at + 1; held = n; ended = true }) (join_of room s (more room n) (at + 1))).at
     by_feed true h = omega arith
     by_feed false h = omega arith
+
+pub place_within : (room : ℕ) (s : List ℕ) (n at : ℕ) → (join_of room s n at).at ≤ at + length s
+unfolding join_of
+place_within room [] n at = omega arith
+place_within room (o ∷ s) n at = by_feed (eqb o 10) (place_within room s (more room n) (at + 1))
+  where
+    by_feed : (b : Bool) → (join_of room s (more room n) (at + 1)).at ≤ (at + 1) + length s → (pick b (record { at = at + 1; held = n; ended = true }) (join_of room s (more room n) (at + 1))).at ≤ at + suc (length s)
+    by_feed true h = omega arith
+    by_feed false h = omega arith
+
+-- a line ends at an octet
+pub ends_at_octet : (room : ℕ) (s : List ℕ) (n at : ℕ) → (join_of room s n at).ended ≡ true → 0 < length s
+unfolding join_of
+ends_at_octet room [] n at e = let z : ◌≡◌ {A = Bool} false true = e in absurd cc
+ends_at_octet room (o ∷ s) n at e = omega arith
 
 -- the octets behind an octet
 behind : (o : ℕ) (s : List ℕ) (at : ℕ) {place : ℕ} → at + 1 ≤ place → drop (place - at) (o ∷ s) ≡ drop (place - (at + 1)) s

@@ -1,13 +1,13 @@
 -- `listing::listed` meets its contract: no sheet is longer than the room. Assumes nothing.
-use Rattle.std.proofs.Common.{◌≡◌, refl, sym, ap, ◌∙◌, true, List, ◌++◌, ℕ, ◌≤◌, arith, leb, length, take, drop, length-append}
+use Rattle.std.proofs.Common.{◌≡◌, refl, sym, ap, ◌∙◌, true, List, ◌++◌, ℕ, ◌≤◌, arith, leb, length, take, drop, length-append, length-take-le}
 use Rattle.std.proofs.Math.Seq.{take-append_seam}
 use borrow.Author.Tests.{le-leb}
 use Rattle.codec.specs.Codec.{Octets}
 use Rattle.codec.proofs.Laws.Codec.{octets_all}
-use Rattle.layout.specs.declared.Answer.{Answer}
-use Rattle.layout.specs.declared.Answer.TheVariants.{Accepted}
-use Rattle.layout.specs.Answer.{length_of}
-use Rattle.layout.specs.Laws.Answer.{Accepted≢Refused}
+use Rattle.std.specs.Prelude.{Result, Ok}
+use Rattle.layout.specs.declared.Refusal.{Refusal}
+use Rattle.layout.specs.Answer.{Answer, Accepted, by_number, length_of}
+use Rattle.layout.specs.Laws.Answer.{one_answer}
 use Rattle.scope.specs.Sheet.{sheet_of}
 use Rattle.scope.specs.Outputs.{with_room, answer_of, after, Leaves}
 use Rattle.longest.specs.Longest.{longest_sheet}
@@ -32,16 +32,25 @@ fits s out o room {out' = out'} l =
       front = ap (take (length (sheet_of s))) output ∙ take-append_seam (sheet_of s) rest;
     }
 
-pub returns-in-Accepted : goal.returns-in-Accepted
+-- so the length that is unwrapped is the sheet's
+length_is : {s out' : List ℕ} {a : Result ℕ Refusal} {n : ℕ} → Stands s (by_number a) out' → a ≡ Ok n → n ≡ length (sheet_of s)
 unfolding length_of
-returns-in-Accepted c =
-    let t = c.args.input.now in
-    let s = fits t c.args.output.now (octets_all t (λ i. omega (arith, c.type_inv.input i))) c.requires c.sheet-answer.ensures in
-    let e = ap length_of (sym c.in-Accepted.is ∙ s.answer) in
-    (omega (arith, e, s.within), ap (λ n. take n c.sheet-answer.new.out) e ∙ s.front)
+length_is t e = ap length_of (sym (ap by_number e) ∙ t.answer)
 
-pub returns-in-Refused : goal.returns-in-Refused
-returns-in-Refused c =
+pub unwrap-len-requires : goal.unwrap-len-requires
+unwrap-len-requires c =
     let t = c.args.input.now in
-    let s = fits t c.args.output.now (octets_all t (λ i. omega (arith, c.type_inv.input i))) c.requires c.sheet-answer.ensures in
-    absurd (Accepted≢Refused (sym s.answer ∙ c.in-Refused.is))
+    let s = fits t c.args.output.now (octets_all t (λ i. omega (arith, c.type_inv.input i))) c.requires c.sheet.ensures in
+    rw (one_answer c.sheet.result (Ok (length (sheet_of t))) s.answer) refl
+
+pub slice_bounds-result-end : goal.slice_bounds-result-end
+slice_bounds-result-end c =
+    let t = c.args.input.now in
+    let s = fits t c.args.output.now (octets_all t (λ i. omega (arith, c.type_inv.input i))) c.requires c.sheet.ensures in
+    sym (length-take-le c.unwrap-len.result c.sheet.new.out (omega (arith, length_is s c.unwrap-len.ensures, s.within)))
+
+pub returns : goal.returns
+returns c =
+    let t = c.args.input.now in
+    let s = fits t c.args.output.now (octets_all t (λ i. omega (arith, c.type_inv.input i))) c.requires c.sheet.ensures in
+    ap (λ n. take n c.sheet.new.out) (length_is s c.unwrap-len.ensures) ∙ s.front

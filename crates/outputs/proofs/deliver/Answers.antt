@@ -11,4 +11,4 @@ returns-then-n-out c =
     (ap (◌++ drop (length s) a.out.now) (c.copy_from_slice.ensures.after ∙ sym (take_all (length s) s (omega arith))))
 
 pub returns : goal.returns
-returns c = let a = c.args in no_room a.octets.now a.out.now (omega (arith, c.if-n-out.false))
+returns c = let a = c.args in rw c.at.ensures (no_room a.octets.now a.out.now (omega (arith, c.if-n-out.false)))

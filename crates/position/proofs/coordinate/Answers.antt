@@ -1,28 +1,21 @@
 -- `position::coordinate` meets its contract: three lines, one behind the other. Assumes nothing.
-use mathlib.Core.Path.{ap}
-use mathlib.Core.List.{List, [], ◌++◌, append-nil}
-use Prim.Native.Nat.{ℕ}
-use lib.IntN.{ℤ}
+use mathlib.Core.Path.{◌≡◌}
+use mathlib.Core.List.{◌++◌}
+use borrow.Author.Rules.{rules}
 use mir.Syntax.{w64}
-use mir.Val.{SFits, to_z, of_z}
-use mir.Facts.{to_z-of_z, sfits_widen}
+use mir.Val.{to_z, of_z}
+use mir.Facts.{to_z-of_z}
 use Rattle.papers.specs.Names.{text}
-use Rattle.scope.specs.Sheet.{key_line, signed_decimal}
-use Rattle.text.specs.Typing.{Types}
-use Rattle.text.specs.Laws.Typing.{types_as, types_behind}
+use Rattle.scope.specs.Sheet.{signed_decimal}
+use Rattle.text.specs.Laws.Typing.{types_behind, types_key}
 use Rattle.position.proofs.coordinate.Goals as goal
-
--- the line of z as the machine has it
-typed : (k : List ℕ) (z : ℤ) → SFits w64 z → {l m : List ℕ} {at next : ℕ} → Types (key_line k (signed_decimal (to_z w64 (of_z w64 z)))) l at m next → Types (key_line k (signed_decimal z)) l at m next
-typed k z f a = types_as (ap (λ x. key_line k (signed_decimal x)) (to_z-of_z f)) a
-
-pub overflow_cast-n : goal.overflow_cast-n
-overflow_cast-n c =
-    rw (to_z-of_z c.ranges.n) (sfits_widen tt c.ranges.n)
 
 pub returns : goal.returns
 returns c =
     let a = c.args in
     let key = a.name.now ++ a.more.now in
-    types_behind (types_as (ap (λ k. key_line k (signed_decimal a.n)) (append-nil key)) (typed (key ++ []) a.n (sfits_widen tt c.ranges.n) (rw (to_z-of_z c.ranges.n) at c.line-udeg_at.ensures)))
-    (types_behind (typed (key ++ text ".udeg") a.udeg c.ranges.udeg c.line-left_at.ensures) (typed (key ++ text ".left") a.left c.ranges.left c.line.ensures))
+    let udeg : to_z w64 (of_z w64 a.exact.udeg) ≡ a.exact.udeg = search rules in
+    let left : to_z w64 (of_z w64 a.exact.left) ≡ a.exact.left = search rules in
+    types_behind (types_key a.name.now a.more.now (signed_decimal a.n) c.word.ensures (rw (to_z-of_z c.ranges.n) at c.pair.ensures))
+    (types_behind (types_key key (text ".udeg") (signed_decimal a.exact.udeg) (types_behind c.word-2.ensures c.word-3.ensures) (rw udeg at c.pair-2.ensures))
+    (types_key key (text ".left") (signed_decimal a.exact.left) (types_behind c.word-4.ensures c.word-5.ensures) (rw left at c.pair-3.ensures)))

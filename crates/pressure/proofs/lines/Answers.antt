@@ -1,4 +1,5 @@
 -- `pressure::lines` meets its contract: the sum of 8,000 and an i32 is far from the ends of 64 bits. Assumes nothing.
+use mathlib.Core.Path.{◌∙◌}
 use mathlib.Core.Bool.{Bool, true, false, cond}
 use Prim.Native.Nat.{suc, ◌+◌, ◌-◌, ◌≤◌, ◌<◌}
 use native.Mathlib.Omega.{arith}
@@ -25,22 +26,13 @@ tenths_size (negsuc n) = go (ltb 8_000 (suc n))
 tenths_fit : (z : ℤ) → SFits w32 z → SFits w64 (tenths_of z)
 tenths_fit z f = let g : mag z < 2_147_483_648 = f.sfits in record { sfits = omega (arith, tenths_size z) }
 
-pub overflow_cast-number : goal.overflow_cast-number
-overflow_cast-number c =
-    let f = c.ranges.n in
-    rw (to_z-of_z f) (sfits_widen tt f)
-
-pub overflow_add-tenths : goal.overflow_add-tenths
-overflow_add-tenths c =
-    let f = c.ranges.n in
-    rw (to_z-of_z f, to_z-of_z {w = w64} {z = c.args.n} (sfits_widen tt f)) (tenths_fit c.args.n f)
-
 pub returns : goal.returns
 returns c =
     let f = c.ranges.n in
     let name = c.args.name.now in
     let z = c.args.n in
+    let number = c.from-number.ensures ∙ to_z-of_z f in
     let wide = to_z-of_z {w = w64} {z = z} (sfits_widen tt f) in
-    types_behind (types_key name (text ".tenths") (signed_decimal (tenths_of z)) c.word-tenths_at.ensures
-    (rw (to_z-of_z f, wide, to_z-of_z {w = w64} {z = tenths_of z} (tenths_fit z f)) at c.signed_pair-next.ensures))
-    (types_key name (text ".sense") (sense_of z) c.word-sense_at.ensures (rw (to_z-of_z f, wide) at c.sense.ensures))
+    types_behind (types_key name (text ".tenths") (signed_decimal (tenths_of z)) c.word.ensures
+    (rw (number, wide, to_z-of_z {w = w64} {z = tenths_of z} (tenths_fit z f)) at c.pair.ensures))
+    (types_key name (text ".sense") (sense_of z) c.word-2.ensures (rw (c.sense.ensures, number, wide) at c.pair-2.ensures))

@@ -1,16 +1,15 @@
 -- `pressure::sense` meets its contract: no number below 0 has the bits of an end. Assumes nothing.
-use mathlib.Core.Path.{◌≡◌, refl, sym, ap}
+use mathlib.Core.Path.{◌≡◌, refl, sym}
 use Prim.Native.Nat.{ℕ, suc, ◌-◌, ◌≤◌, ◌<◌}
 use native.Mathlib.Omega.{arith}
 use borrow.Author.Tests.{eq-eqb, ne_eqb}
+use borrow.Author.Rules.{rules}
 use lib.Dec.{eqb}
 use lib.IntN.{ℤ, pos, negsuc}
 use mir.Syntax.{w64}
 use mir.Val.{SFits, of_z}
 use Rattle.papers.specs.Names.{text}
 use Rattle.scope.specs.Pressure.{eq_int, sense_of}
-use Rattle.scope.specs.Sheet.{key_line}
-use Rattle.text.specs.Laws.Typing.{types_as}
 use Rattle.pressure.proofs.sense.Goals as goal
 
 -- a number is k exactly if it has the bits of k
@@ -39,13 +38,11 @@ module _ (z : ℤ) (f : SFits w64 z) where
   between a b = rw (sym at_lowest, sym at_highest, ne_eqb (of_z w64 z) 0 a, ne_eqb (of_z w64 z) 4_095 b) refl
 
 pub returns-in-0 : goal.returns-in-0
-returns-in-0 c =
-    types_as (ap (key_line c.args.key.now) (lowest c.args.n c.ranges.n c.in-0.in-0-own.keys1)) c.word_pair.ensures
+returns-in-0 c = lowest c.args.n c.ranges.n (search rules)
 
 pub returns-in-4095 : goal.returns-in-4095
-returns-in-4095 c =
-    types_as (ap (key_line c.args.key.now) (highest c.args.n c.ranges.n c.in-4095.in-4095-own.keys2)) c.word_pair-in-4095.ensures
+returns-in-4095 c = highest c.args.n c.ranges.n (search rules)
 
 pub returns-in_default : goal.returns-in_default
 returns-in_default c =
-    types_as (ap (key_line c.args.key.now) (between c.args.n c.ranges.n c.in_default.in_default-own.rest.0.1 c.in_default.in_default-own.rest.1)) c.word_pair-in_default.ensures
+    between c.args.n c.ranges.n (search rules) (search rules)

@@ -1,18 +1,12 @@
--- `protocol::record_at` meets its contract: a line that is too long is cut. Assumes nothing.
-use mathlib.Core.Path.{refl, sym, ◌∙◌}
-use native.Mathlib.Omega.{arith}
-use lib.Seq.{length-take-le}
-use Rattle.protocol.specs.Laws.Record.{record_front, record_short}
+-- A line that is too long is cut.
+use Rattle.std.proofs.Common.{take, ap, ◌∙◌}
+use Rattle.std.proofs.lemmas.List.{take_min}
+use Rattle.protocol.specs.Line.{words_at}
+use Rattle.protocol.specs.Record.{record_in, record_at}
 use Rattle.protocol.proofs.record_at.Goals as goal
 
-pub slice_bounds-record_in-end : goal.slice_bounds-record_in-end
-slice_bounds-record_in-end c = sym (length-take-le 16_384 c.args.line.now (omega arith))
-
-pub record_in-requires : goal.record_in-requires
-record_in-requires c = omega (arith, length-take-le 16_384 c.args.line.now (omega arith))
-
-pub returns-then-line-gt-LONGEST : goal.returns-then-line-gt-LONGEST
-returns-then-line-gt-LONGEST c = let a = c.args in record_front a.line.now a.at refl c.record_in.ensures
-
 pub returns : goal.returns
-returns c = let a = c.args in c.record_in-2.ensures ∙ record_short a.line.now a.at (omega arith)
+unfolding record_at
+returns c =
+    let line = c.args.line.now in
+    c.record_in.ensures ∙ ap (λ s. record_in (words_at s c.args.at)) (ap (λ n. take n line) c.min.ensures ∙ take_min 16_384 line)

@@ -3,9 +3,7 @@ use Rattle.std.specs.Prelude.{◌≡◌, refl, Bool, true, false, List, [], ◌�
 use Rattle.std.proofs.Common.{ap, arith, eqb-true}
 use Rattle.codec.specs.Pick.{pick}
 use Rattle.protocol.specs.Line.{nth, same}
-use Rattle.protocol.specs.Forms.{fits, Form, first_wrong, judged_as, judged_by}
-use Rattle.protocol.specs.declared.Judged.{Judged}
-use Rattle.protocol.specs.declared.Judged.TheVariants.{Asks, Wrong}
+use Rattle.protocol.specs.Forms.{fits, Form, first_wrong, judged_as, judged_by, Judged, Asks, Wrong}
 
 -- words that are right one by one
 pub record Right (ks : List ℕ) (ws : List (List ℕ)) : Type 0 where

@@ -1,19 +1,21 @@
 -- The words of a line by place: the word that starts at a place is what the code takes, and the places of `parse_of` are those of the line's words.
-use Rattle.std.specs.Prelude.{◌≡◌, Bool, ◌&&◌, eqb, length, get_or, take, drop}
+use Rattle.std.specs.Prelude.{◌≡◌, Bool, ◌++◌, set, eqb, length, get_or, take, drop}
 use Rattle.std.proofs.Math.Path.{refl, ap}
-use Rattle.std.proofs.Common.{sym, ap₂, ◌∙◌, drop_of_length-le, length-take-le}
+use Rattle.std.proofs.Common.{sym, ◌∙◌, append-nil, drop_of_length-le, length-take-le}
 use Rattle.std.proofs.Math.Bool.{true, false}
 use mathlib.Core.List.{List, [], ◌∷◌}
-use Prim.Native.Nat.{ℕ, zero, suc, ◌+◌, ◌≤◌, ◌<◌}
+use Prim.Native.Nat.{ℕ, zero, suc, ◌+◌, ◌-◌, ◌≤◌, ◌<◌}
+use Rattle.std.proofs.Math.Numerals.{add-one}
+use Rattle.std.proofs.lemmas.List.Edits.{sets, sets-eq}
 use native.Mathlib.Omega.{arith}
-use borrow.Author.Tests.{le-leb, lt-leb, leb-true, leb-false, eq-eqb, eqb-true}
+use borrow.Author.Tests.{le-leb, lt-leb, leb-true, leb-false}
 use Rattle.std.proofs.Math.Dec.{leb, leb-suc-suc}
 use Rattle.std.proofs.Math.ListN.{length-drop}
 use Rattle.std.proofs.Math.Seq.{drop-drop, drop-nil}
 use Rattle.codec.specs.Pick.{pick}
 use Rattle.words.specs.Lines.{word_length, word_of}
 use Rattle.words.specs.Laws.Lines.{word_within}
-use Rattle.protocol.specs.Line.{glued, words_of, nth, same, words_at, next_place, places_from}
+use Rattle.protocol.specs.Line.{glued, words_of, nth, words_at, next_place, places_from}
 
 pub words_step : (s : List ℕ) → words_of s ≡ word_of s ∷ words_at s (suc (word_length s))
 unfolding words_of glued word_of word_length words_at
@@ -113,54 +115,23 @@ pub word_length_lem : (s : List ℕ) → length (word_of s) ≡ word_length s
 unfolding word_of
 word_length_lem s = length-take-le (word_length s) s (word_within s)
 
-pub place_within : (s : List ℕ) (at : ℕ) → at ≤ length s → at + word_length (drop at s) ≤ length s
-place_within s at h = omega (arith, word_within (drop at s), length-drop at s)
-
-pub place_later : (s : List ℕ) (at : ℕ) → at ≤ next_place s at
-unfolding next_place
-place_later s at = by_end (leb at (length s))
-  where
-    by_end : (b : Bool) → at ≤ pick b (at + word_length (drop at s) + 1) at
-    by_end true = omega arith
-    by_end false = omega arith
-
-pub word_short : (s : List ℕ) (at : ℕ) {w : List ℕ} → w ≡ word_of (drop at s) → length w ≤ length s
-word_short s at e = omega (arith, ap length e, word_length_lem (drop at s), word_within (drop at s), length-drop at s)
-
--- ---- of `places`
+-- ---- of `places`: the places that are left go where they went from the start
 
 module _ (s : List ℕ) where
-  pub place_cons : (at n : ℕ) {next : ℕ} {rest : List ℕ} → next ≡ next_place s at → rest ≡ places_from s next n → at ∷ rest ≡ places_from s at (suc n)
+  abbrev pub placed_from : List ℕ → ℕ → ℕ → List ℕ
+  placed_from l i at = sets l i (places_from s at (10 - i))
+
+  pub placed_more : (l : List ℕ) (i at : ℕ) → i < 10 → {next : ℕ} → next ≡ next_place s at → placed_from l i at ≡ placed_from (set l i at) (i + 1) next
   unfolding places_from
-  place_cons at n e f = ap (λ t. at ∷ t) (f ∙ ap (λ k. places_from s k n) e)
+  placed_more l i at h en =
+      let e : 10 - i ≡ suc (10 - (i + 1)) = omega arith in
+      rw (e, en, add-one i) refl
 
-  pub place_last : (at : ℕ) → at ∷ [] ≡ places_from s at 1
+  pub placed_end : (l : List ℕ) (i at : ℕ) → 10 ≤ i → placed_from l i at ≡ l
   unfolding places_from
-  place_last at = refl
+  placed_end l i at h = let e : 10 - i ≡ 0 = omega arith in rw e refl
 
--- ---- words that are the same
-
-same_self : (a : List ℕ) → same a a ≡ true
-unfolding same
-same_self [] = refl
-same_self (x ∷ a) = rw (eq-eqb x x refl) (same_self a)
-
-same_is : (a b : List ℕ) → same a b ≡ true → a ≡ b
-unfolding same
-same_is [] [] e = refl
-same_is [] (y ∷ b) e = let z : ◌≡◌ {A = ℕ} 0 1 = cc in absurd (omega arith)
-same_is (x ∷ a) [] e = let z : ◌≡◌ {A = ℕ} 0 1 = cc in absurd (omega arith)
-same_is (x ∷ a) (y ∷ b) e = by_first (eqb x y) refl e (same_is a b)
-  where
-    by_first : (t : Bool) → eqb x y ≡ t → t && same a b ≡ true → (same a b ≡ true → a ≡ b) → x ∷ a ≡ y ∷ b
-    by_first true t f rest = ap₂ ◌∷◌ (eqb-true x y t) (rest f)
-    by_first false t f rest = let z : ◌≡◌ {A = ℕ} 0 1 = cc in absurd (omega arith)
-
--- what tells equal words apart from others is this test
-pub same_told : (a b : List ℕ) {r : Bool} → (r ≡ true → a ≡ b) × (a ≡ b → r ≡ true) → r ≡ same a b
-same_told a b {r} x = by_answer r (same a b) x.0 (λ e. x.1 (same_is a b e)) (λ e. ap (same a) (sym e) ∙ same_self a)
-  where
-    by_answer : (r s : Bool) → (r ≡ true → a ≡ b) → (s ≡ true → r ≡ true) → (a ≡ b → s ≡ true) → r ≡ s
-    by_answer true s f g h = sym (h (f refl))
-    by_answer false true f g h = g refl
-    by_answer false false f g h = refl
+  -- ten of them fill an array of ten
+  pub placed_all : (l : List ℕ) → length l ≡ 10 → sets l 0 (places_from s 0 10) ≡ places_from s 0 10
+  unfolding places_from
+  placed_all l e = sets-eq (places_from s 0 10) l 0 (omega (arith, e)) ∙ ap (λ x. places_from s 0 10 ++ x) (drop_of_length-le l {i = 10} (omega (arith, e))) ∙ append-nil (places_from s 0 10)

@@ -1,5 +1,5 @@
 -- One law for each way through the code that takes a record from its words.
-use Rattle.std.specs.Prelude.{◌≡◌, List, ◌++◌, ℤ, length, take, drop, set}
+use Rattle.std.specs.Prelude.{◌≡◌, List, ◌++◌, ℤ, length, drop, set}
 use Rattle.std.proofs.Math.Path.{refl}
 use Rattle.std.proofs.Common.{sym, ap, ◌∙◌, append-nil, drop_of_length-le, drop-drop, take_all}
 use Prim.Native.Nat.{ℕ, zero, suc, ◌+◌, ◌-◌, ◌≤◌, ◌<◌}
@@ -14,18 +14,18 @@ use Rattle.protocol.specs.Line.{nth, words_at, next_place}
 use Rattle.protocol.specs.Record.{values_of, record_in, record_at}
 use Rattle.protocol.specs.Laws.Line.{word_at, rest_at}
 
--- ---- of `parts` and `numbers`: values from a word on, into an array
+-- ---- of `values`: values from a word on, into an array
 
 module _ {A : Type 0} (value : List ℕ → A) (most : ℕ) (s : List ℕ) where
   abbrev pub filled : List A → ℕ → ℕ → List A
   filled l i at = sets l i (values_of value (most - i) (words_at s at))
 
-  pub filled_more : (l : List A) (i at : ℕ) → i < most → {x : A} {w : List ℕ} → w ≡ word_of (drop at s) → x ≡ value w → {m : List A} → m ≡ set l i x → {next : ℕ} → next ≡ next_place s at
-      → filled l i at ≡ filled m (i + 1) next
+  pub filled_more : (l : List A) (i at : ℕ) → i < most → {x : A} {w : List ℕ} → w ≡ word_of (drop at s) → x ≡ value w → {next : ℕ} → next ≡ next_place s at
+      → filled l i at ≡ filled (set l i x) (i + 1) next
   unfolding values_of
-  filled_more l i at h ew ex em en =
+  filled_more l i at h ew ex en =
       let e : most - i ≡ suc (most - (i + 1)) = omega arith in
-      rw (e, ← word_at s at, rest_at s at, em, ex, ew, en, add-one i) refl
+      rw (e, ← word_at s at, rest_at s at, ex, ew, en, add-one i) refl
 
   pub filled_end : (l : List A) (i at : ℕ) → most ≤ i → filled l i at ≡ l
   unfolding values_of
@@ -45,12 +45,17 @@ values_length value zero ws = refl
 values_length value (suc k) ws = ap suc (values_length value k (drop 1 ws))
 
 -- an array that they fill
-pub filled_all : {A : Type 0} (value : List ℕ → A) (k : ℕ) (ws : List (List ℕ)) (l : List A) {m : List A} → k ≡ length l → m ≡ sets l 0 (values_of value k ws) → m ≡ values_of value k ws
-filled_all value k ws l e em =
-    em
+pub filled_all : {A : Type 0} (value : List ℕ → A) (k : ℕ) (s : List ℕ) (l : List A) (at : ℕ) → length l ≡ k → filled value k s l 0 at ≡ values_of value k (words_at s at)
+filled_all value k s l at e =
+    let ws = words_at s at in
+    let z : k - 0 ≡ k = omega arith in
+    ap (λ n. sets l 0 (values_of value n ws)) z
     ∙ sets-eq (values_of value k ws) l 0 (omega (arith, values_length value k ws))
     ∙ ap (λ x. values_of value k ws ++ x) (drop_of_length-le l {i = 0 + length (values_of value k ws)} (omega (arith, values_length value k ws)))
     ∙ append-nil (values_of value k ws)
+
+pub passed_none : (k : ℕ) (ws : List (List ℕ)) → drop (k - 0) ws ≡ drop k ws
+passed_none k ws = let z : k - 0 ≡ k = omega arith in ap (λ n. drop n ws) z
 
 -- ---- of `record_in`
 
@@ -69,10 +74,6 @@ record_taken s at at4 {at2 = at2} {at3 = at3} ew ec e2 ev ei e3 ep e4 en =
     rw (ec2, ei2, ep2, en2) refl
 
 -- ---- of `record_at`
-
-pub record_front : (line : List ℕ) (at : ℕ) {f : List ℕ} {r : Record} → f ≡ take 16_384 line → r ≡ record_in (words_at f at) → r ≡ record_at line at
-unfolding record_at
-record_front line at ef er = er ∙ ap (λ s. record_in (words_at s at)) ef
 
 -- of a line that a request can be
 pub record_short : (line : List ℕ) (at : ℕ) → length line ≤ 16_384 → record_in (words_at line at) ≡ record_at line at

@@ -22,4 +22,4 @@ returns-then-ind-spare_of-eq0 c =
 pub returns : goal.returns
 returns c =
     let a = c.args in let xs = a.s.now in
-    c.unplaced.ensures ∙ ap (surveyed_by (items_of a.cat) (length xs) a.ind) (sym (items_in_lem a.cat a.ind xs (spare_set a.cat a.ind c.ranges.ind.fits c.spare_of.ensures c.if-ind-spare_of-eq0.false)))
+    rw c.at.ensures (ap (surveyed_by (items_of a.cat) (length xs) a.ind) (sym (items_in_lem a.cat a.ind xs (spare_set a.cat a.ind c.ranges.ind.fits c.spare_of.ensures c.if-ind-spare_of-eq0.false))))

@@ -18,7 +18,7 @@ returns-then-field-eq0 c =
     let octets : Octets c.args.field.now =
     octets_all c.args.field.now (λ i. omega (arith, c.type_inv.field i)) in
     let a = c.args in
-    c.unplaced.ensures ∙ survey_by a.cat a.field.now octets (empty_is a.cat (sym c.is_known.ensures ∙ c.if-is_known.true) a.field.now c.if-field-eq0.true)
+    rw c.at.ensures (survey_by a.cat a.field.now octets (empty_is a.cat (sym c.is_known.ensures ∙ c.if-is_known.true) a.field.now c.if-field-eq0.true))
 
 pub returns-then-len-lt2 : goal.returns-then-len-lt2
 returns-then-len-lt2 c =
@@ -26,15 +26,15 @@ returns-then-len-lt2 c =
     octets_all c.args.field.now (λ i. omega (arith, c.type_inv.field i)) in
     let a = c.args in
     let s = a.field.now in
-    c.unplaced-then-len-lt2.ensures ∙ survey_by a.cat s octets (small_is a.cat (sym c.is_known.ensures ∙ c.if-is_known.true) s c.if-field-eq0.false (subst (◌< 2) c.wide-len.ensures.0 c.if-len-lt2.true))
+    rw c.at-then-len-lt2.ensures (survey_by a.cat s octets (small_is a.cat (sym c.is_known.ensures ∙ c.if-is_known.true) s c.if-field-eq0.false (subst (◌< 2) c.wide-len.ensures.0 c.if-len-lt2.true)))
 
 pub returns-then-field-len : goal.returns-then-field-len
 returns-then-field-len c =
     let octets : Octets c.args.field.now =
     octets_all c.args.field.now (λ i. omega (arith, c.type_inv.field i)) in
     let a = c.args in let s = a.field.now in
-    c.unplaced-then-field-len.ensures ∙ survey_by a.cat s octets (short_is a.cat (sym c.is_known.ensures ∙ c.if-is_known.true) s c.if-field-eq0.false
-    (omega (arith, c.wide-len.ensures.0, c.if-len-lt2.false)) (omega (arith, c.wide-len.ensures.0, c.if-field-len.true)))
+    rw c.at-then-field-len.ensures (survey_by a.cat s octets (short_is a.cat (sym c.is_known.ensures ∙ c.if-is_known.true) s c.if-field-eq0.false
+    (omega (arith, c.wide-len.ensures.0, c.if-len-lt2.false)) (omega (arith, c.wide-len.ensures.0, c.if-field-len.true))))
 
 pub slice_bounds-items-end : goal.slice_bounds-items-end
 slice_bounds-items-end c =
@@ -60,4 +60,4 @@ returns c =
     let octets : Octets c.args.field.now =
     octets_all c.args.field.now (λ i. omega (arith, c.type_inv.field i)) in
     let a = c.args in
-    c.unplaced-2.ensures ∙ survey_by a.cat a.field.now octets (other_is a.cat a.field.now (sym c.is_known.ensures ∙ c.if-is_known.false))
+    rw c.at-2.ensures (survey_by a.cat a.field.now octets (other_is a.cat a.field.now (sym c.is_known.ensures ∙ c.if-is_known.false)))

@@ -95,7 +95,7 @@ module _ (k : ℕ) (t : Bool) (xs : List ℕ) {x : Res (List ℕ)} {so : List �
   pub kept_on : Kept (add_place k t xs x) (so ++ (r ∷ [])) r
   kept_on = ended s.ends goes stops
     where
-      stops : (e p : ℕ) → x ≡ bad e p → a ≡ e * 65_536 + p → (1 ≤ e) × (e < 256) × (p < 65_536) → Kept (add_place k t xs x) (so ++ (r ∷ [])) r
+      stops : (e p : ℕ) → x ≡ bad e p → a ≡ e * 65_536 + p → (5 ≤ e) × (e ≤ 8) × (p < 65_536) → Kept (add_place k t xs x) (so ++ (r ∷ [])) r
       stops e p ex er f =
           let z : add_place k t xs x ≡ bad e p = ap (add_place k t xs) ex in
           record { ends = ends_bad e p z (w.stops (omega (arith, er, f.0)) ∙ er) f; all = λ ps m g. let q : ◌≡◌ {A = Res (List ℕ)} (bad e p) (got ps m) = sym z ∙ g in let y : ◌≡◌ {A = ℕ} 0 1 = cc in absurd (omega arith) }
@@ -106,7 +106,7 @@ module _ (k : ℕ) (t : Bool) (xs : List ℕ) {x : Res (List ℕ)} {so : List �
           at_once : add_place k t xs x ≡ behind_all ps (place_run k t xs a)
           at_once = ap (add_place k t xs) ex
 
-          fell : (e p : ℕ) → place_run k t xs a ≡ bad e p → r ≡ e * 65_536 + p → (1 ≤ e) × (e < 256) × (p < 65_536) → Kept (add_place k t xs x) (so ++ (r ∷ [])) r
+          fell : (e p : ℕ) → place_run k t xs a ≡ bad e p → r ≡ e * 65_536 + p → (5 ≤ e) × (e ≤ 8) × (p < 65_536) → Kept (add_place k t xs x) (so ++ (r ∷ [])) r
           fell e p ey er f =
               let z : add_place k t xs x ≡ bad e p = at_once ∙ ap (behind_all ps) ey in
               record { ends = ends_bad e p z er f; all = λ qs m g. let q : ◌≡◌ {A = Res (List ℕ)} (bad e p) (got qs m) = sym z ∙ g in let y : ◌≡◌ {A = ℕ} 0 1 = cc in absurd (omega arith) }

@@ -1,7 +1,7 @@
 -- The taking of a field that was accepted: each item of its row stands where the survey found it, and the slots are filled from the left.
 use Rattle.std.proofs.Math.Path.{◌≡◌, refl, sym, ap, ap₂, subst}
 use Rattle.std.proofs.Common.{◌∙◌, subst₂, arith, ltb→lt, length-append, take-suc, take_all, length-take-le}
-use Rattle.std.specs.Prelude.{Bool, true, List, [], ◌∷◌, ◌++◌, ℕ, suc, ◌+◌, ◌-◌, ◌≤◌, ◌<◌, ltb, ℤ, pos, take}
+use Rattle.std.specs.Prelude.{Ok, Err, Option, Bool, true, false, List, [], ◌∷◌, ◌++◌, ℕ, suc, ◌+◌, ◌-◌, ◌≤◌, ◌<◌, ltb, ℤ, pos, take}
 use borrow.Author.Tests.{ne_eqb, eqb-true}
 use Rattle.std.proofs.Math.Dec.{T, eqb}
 use Rattle.std.proofs.Math.ListN.{length, get_or, replicate, length-replicate, get_or-append}
@@ -16,10 +16,9 @@ use Rattle.codec.proofs.Laws.Long.{LongBy, many}
 use Rattle.codec.proofs.Laws.Sets.{sets_append, set_front}
 use Rattle.papers.specs.Papers.{known, paper_of, items_of, SLOTS, all_slots}
 use Rattle.papers.proofs.Laws.Papers.{paper_048, paper_021, paper_007, numbers_048, numbers_021, numbers_007, few_slots}
-use Rattle.layout.specs.declared.Answer.{Answer}
-use Rattle.layout.specs.declared.Answer.TheVariants.{Accepted, Refused}
-use Rattle.layout.specs.declared.Reading.{Reading}
-use Rattle.layout.specs.declared.Surveyed.{Surveyed}
+use Rattle.layout.specs.declared.Refusal.{Refusal}
+use Rattle.layout.specs.declared.Survey.{Survey}
+use Rattle.layout.specs.Answer.{Answer, Accepted, Refused, Reading, Surveyed, by_number, survey_by_number}
 use Rattle.layout.specs.Record.{all_parts, all_numbers, flatten}
 use Rattle.scope.specs.Reading.{field_of, no_record, shown, read_of, into_answer, kept_by, ReadsInto}
 use Rattle.scope.specs.Survey.{surveyed, survey_of}
@@ -28,7 +27,7 @@ use Rattle.spots.specs.Laws.Spots.{spots_right}
 use Rattle.reader.specs.Slots.{Ready}
 use Rattle.reader.specs.Rows.{place_run, Found, row_from}
 use Rattle.reader.specs.Fields.{walk_of}
-use Rattle.reader.specs.Taking.{is_got, ItemTaken, RowFits, RowTaken}
+use Rattle.reader.specs.Taking.{is_got, start_of, is_there, place, ItemTaken, RowFits, RowTaken}
 use Rattle.reader.specs.Laws.Steps.{ready_after}
 use Rattle.reader.specs.Laws.Rows.{place_many, all_numbers_one, all_parts_one}
 use Rattle.reader.specs.Laws.Whole.{ready_zeros, Sized, RowSized, row_sized, Walked, walked, found_sized, field_found, field_fell}
@@ -87,6 +86,27 @@ module _ {k n : ℕ} {ds xs starts : List ℕ} {l : List ℤ} {i b : ℕ} {m : L
           kept = λ z.
               w.taken.kept (ready_after z (all_numbers us) (s.kept z) s.base) v _ row_item
               ∙ ap₂ (λ x j. sets x j v.1) (s.kept z) s.base ∙ sym (sets_append l 0 (all_numbers us) v.1) ∙ ap (sets l 0) (sym en);
+        }
+
+  -- by where it begins: where it is not there the place says nothing
+  module _ (g : T (ltb i n)) {start : Option ℕ} (e : start ≡ start_of (eqb (get_or ds i 0) 1) (get_or starts i 0)) where
+    pub next_asks : T (is_got (place_run (k + i) (is_there start) xs (place start)))
+    unfolding place_run
+    next_asks = rw e (go (eqb (get_or ds i 0) 1) (is_there_lem g refl refl))
+      where
+        go : (t : Bool) → T (is_got (place_run (k + i) t xs (get_or starts i 0))) → T (is_got (place_run (k + i) (is_there (start_of t (get_or starts i 0))) xs (place (start_of t (get_or starts i 0)))))
+        go true h = h
+        go false h = tt
+
+    pub next_taken : {r : ℕ} {m1 : List ℤ} → ItemTaken m b (place_run (k + i) (is_there start) xs (place start)) r m1 → Row k n ds xs starts l (suc i) (b + slots (item_on (k + i))) m1 (ps ++ (r ∷ []))
+    unfolding place_run
+    next_taken {r} {m1} w = one_taken g refl refl (go (eqb (get_or ds i 0) 1) (rw e at w))
+      where
+        go : (t : Bool) → ItemTaken m b (place_run (k + i) (is_there (start_of t (get_or starts i 0))) xs (place (start_of t (get_or starts i 0)))) r m1 → ItemTaken m b (place_run (k + i) t xs (get_or starts i 0)) r m1
+        go true w = w
+        go false w = record {
+          taken = record { long = w.taken.long; kept = λ z v n ex. w.taken.kept z v 0 (let q : v ≡ (0, replicate (slots (item_on (k + i))) (pos 0)) = cc in rw q refl) };
+          parts = λ v n ex. w.parts v 0 (let q : v ≡ (0, replicate (slots (item_on (k + i))) (pos 0)) = cc in rw q refl);
         }
 
   -- the last item was taken
@@ -161,14 +181,14 @@ module _ (cat : ℕ) (s : List ℕ) where
       go (accepted r) = refl
       go (refused q p) = refl
 
-  pub accepted_by : {x : Surveyed} → x ≡ survey_of cat s → {n : ℕ} → x.answer ≡ Accepted n → Accepts cat s n
-  accepted_by ex ea = accepts (same_answer ex ∙ ea)
+  pub accepted_by : {v : Survey} → survey_by_number (Ok v) ≡ survey_of cat s → Accepts cat s v.len
+  accepted_by ex = accepts (same_answer ex)
 
 -- ---- the ways out of `read_into`
 
-pub into_refused : (cat : ℕ) (s : List ℕ) {x : Surveyed} → x ≡ survey_of cat s → {q p : ℕ} → x.answer ≡ Refused q p → {ps : List ℕ} {l : List ℤ} → ReadsInto (read_of cat s) ps l x.answer ps l
+pub into_refused : (cat : ℕ) (s : List ℕ) (e : Refusal) → survey_by_number (Err e) ≡ survey_of cat s → {ps : List ℕ} {l : List ℤ} → ReadsInto (read_of cat s) ps l (by_number (Err e)) ps l
 unfolding into_answer kept_by
-into_refused cat s ex {q} {p} ea = let r : (read_of cat s).answer ≡ Refused q p = same_answer cat s ex ∙ ea in record { answer = rw r ea; parts = rw r refl; numbers = rw r refl }
+into_refused cat s e ex = let r : (read_of cat s).answer ≡ by_number (Err e) = same_answer cat s ex in record { answer = rw r refl; parts = rw r refl; numbers = rw r refl }
 
 module _ {cat : ℕ} {s : List ℕ} {n : ℕ} (k : Accepts cat s n) where
   pub into_none : {ps : List ℕ} {l : List ℤ} → (length l ≡ SLOTS → ⊥) → ReadsInto (read_of cat s) ps l (Refused 11 0) ps l

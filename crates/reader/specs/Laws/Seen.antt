@@ -2,17 +2,17 @@
 use Rattle.std.specs.Prelude.{◌≡◌, refl, Bool, true, false, ℕ, ◌+◌, ◌*◌, ◌≤◌, ◌<◌}
 use Rattle.std.proofs.Common.{sym, ap, ◌∙◌, subst, arith}
 use Rattle.codec.specs.Codec.{Res, got, bad, map_res}
-use Rattle.reader.specs.Seen.{code_of, Coded, Ends, Went}
+use Rattle.reader.specs.Seen.{code_of, Coded, Ends, Asked, Went}
 
 pub ends_got : {A : Type 0} {x : Res A} {r : ℕ} (a : A) (n : ℕ) → x ≡ got a n → r ≡ n → n < 65_536 → Ends x r
 ends_got a n ex er h = record { is = er ∙ ap code_of (sym ex); fits = subst Coded (sym ex) h }
 
-pub ends_bad : {A : Type 0} {x : Res A} {r : ℕ} (e p : ℕ) → x ≡ bad e p → r ≡ e * 65_536 + p → (1 ≤ e) × (e < 256) × (p < 65_536) → Ends x r
+pub ends_bad : {A : Type 0} {x : Res A} {r : ℕ} (e p : ℕ) → x ≡ bad e p → r ≡ e * 65_536 + p → (5 ≤ e) × (e ≤ 8) × (p < 65_536) → Ends x r
 ends_bad e p ex er h = record { is = er ∙ ap code_of (sym ex); fits = subst Coded (sym ex) h }
 
 -- by what was read
 pub ended {ℓ} : {A : Type 0} {X : Type ℓ} {x : Res A} {r : ℕ} → Ends x r
-    → ((a : A) → x ≡ got a r → r < 65_536 → X) → ((e p : ℕ) → x ≡ bad e p → r ≡ e * 65_536 + p → (1 ≤ e) × (e < 256) × (p < 65_536) → X) → X
+    → ((a : A) → x ≡ got a r → r < 65_536 → X) → ((e p : ℕ) → x ≡ bad e p → r ≡ e * 65_536 + p → (5 ≤ e) × (e ≤ 8) × (p < 65_536) → X) → X
 ended {A = A} {X = X} {x = x} {r = r} s f g = go x refl s.is s.fits
   where
     go : (y : Res A) → x ≡ y → r ≡ code_of y → Coded y → X
@@ -40,3 +40,7 @@ module _ {A : Type 0} {t : Bool} {x : Res A} {a : ℕ} where
 
 pub went_same : {A : Type 0} {t : Bool} {x y : Res A} {a r : ℕ} → Went t x a r → x ≡ y → Went t y a r
 went_same {t = t} {a = a} {r = r} w e = subst (λ z. Went t z a r) e w
+
+-- by what is called
+pub went_by : {A : Type 0} {t : Bool} {x : Res A} {P : ℕ → Type 0} {a r : ℕ} → Asked t P a r → (a < 65_536 → P r → Ends x r) → Went t x a r
+went_by q f = record { stops = q.stops; absent = q.absent; there = λ h e. f h (q.there h e) }

@@ -14,7 +14,7 @@ use Rattle.codec.proofs.Laws.Field.{length-texts}
 use Rattle.codec.proofs.Laws.View.{before_next}
 use Rattle.papers.specs.Papers.{paper_of, items_of}
 use Rattle.papers.proofs.Laws.Papers.{good_paper}
-use Rattle.layout.specs.declared.Answer.TheVariants.{Accepted}
+use Rattle.layout.specs.Answer.{Accepted}
 use Rattle.scope.specs.Survey.{starts_from, surveyed, survey_of}
 use Rattle.spots.specs.Spots.{spot_of, item_on, items_from}
 use Rattle.spots.specs.Laws.Spots.{spots_right}

@@ -1,25 +1,25 @@
 -- `refdesk::take_in` meets its contract: each turn takes an octet, and what will be left stays the same. Assumes nothing.
-use Rattle.std.proofs.Common.{arith}
-use Rattle.refdesk.specs.Turns.{further, since_line, since_none, since_all}
+use Rattle.refdesk.specs.Turns.{line_answered, all_taken, taken_within, behind_shorter}
+use Rattle.std.proofs.Common.{refl}
 use Rattle.refdesk.proofs.take_in.Goals as goal
 
 -- a line ended
 
-pub loop-at-smaller-then-joined : goal.loop-at-smaller-then-joined
-loop-at-smaller-then-joined g c = omega (arith, further c.args.octets.now c.loop-at.at c.loop-at.so_far c.loop-at.line c.join-joined.ensures (omega arith))
+pub slice_bounds-rest-count : goal.slice_bounds-rest-count
+slice_bounds-rest-count g c = (taken_within c.loop-taken.rest.now c.loop-taken.line.octets.now c.loop-taken.line.held c.join.new.self.held c.in-Some.taken c.in-Some.ensures.joined).1
 
-pub loop-at-preserved-then-joined : goal.loop-at-preserved-then-joined
-loop-at-preserved-then-joined g c h x over = since_line c.args.octets.now c.loop-at.at c.loop-at.so_far c.join-joined.ensures (c.loop-at.invariant h x c.if-so_far-ne-OVER.true) c.if-joined.true (c.answered-so_far.ensures over) (omega arith)
+pub slice_bounds-rest-start : goal.slice_bounds-rest-start
+slice_bounds-rest-start g c = (taken_within c.loop-taken.rest.now c.loop-taken.line.octets.now c.loop-taken.line.held c.join.new.self.held c.in-Some.taken c.in-Some.ensures.joined).1
+
+pub loop-taken-smaller : goal.loop-taken-smaller
+loop-taken-smaller g c =
+    let t = taken_within c.loop-taken.rest.now c.loop-taken.line.octets.now c.loop-taken.line.held c.join.new.self.held c.in-Some.taken c.in-Some.ensures.joined in
+    behind_shorter c.loop-taken.rest.now c.in-Some.taken t.0 t.1
+
+pub loop-taken-preserved : goal.loop-taken-preserved
+loop-taken-preserved g c h x = line_answered c.loop-taken.rest.now c.loop-taken.line.held c.join.new.self.held _ c.in-Some.ensures.joined (c.loop-taken.invariant h x) c.in-Some.taken refl
 
 -- no line ended
 
-pub loop-at-smaller : goal.loop-at-smaller
-loop-at-smaller g c = omega (arith, further c.args.octets.now c.loop-at.at c.loop-at.so_far c.loop-at.line c.join-joined.ensures (omega arith))
-
-pub loop-at-preserved : goal.loop-at-preserved
-loop-at-preserved g c h x over = since_none c.args.octets.now c.loop-at.at c.loop-at.so_far c.join-joined.ensures (c.loop-at.invariant h x c.if-so_far-ne-OVER.true) c.if-joined.false
-
--- all octets are taken
-
-pub returns-after-loop-at : goal.returns-after-loop-at
-returns-after-loop-at g c h x over = since_all c.args.octets.now c.loop-at.at (omega arith) (c.loop-at.invariant h x over)
+pub returns : goal.returns
+returns g c h x = all_taken c.loop-taken.rest.now c.loop-taken.line.held c.join.new.self.held _ c.join.ensures.joined (c.loop-taken.invariant h x) c.in_default.is

@@ -1,13 +1,18 @@
 -- `replies::choice_text` meets its contract: one law at each way out. Assumes nothing.
+use Rattle.replies.specs.Texts.{next}
+use mathlib.Core.Path.{ap}
+use Rattle.layout.specs.Answer.{view_by_number, choice_by_number}
 use Rattle.replies.specs.Laws.Typed.{choice_ok, choice_refused}
 use Rattle.replies.proofs.choice_text.Goals as goal
 
-pub returns-in-Shown : goal.returns-in-Shown
-returns-in-Shown c =
+pub returns-in-Ok : goal.returns-in-Ok
+unfolding next
+returns-in-Ok c =
     let a = c.args in
-    choice_ok a.choice a.part.now c.which_number-number.ensures c.in-Shown.is c.ok-source.ensures c.next-at.ensures c.shown.ensures
+    choice_ok (choice_by_number a.choice) a.part.now c.from-which.ensures (ap view_by_number c.in-Ok.is) c.ok.ensures c.next.ensures c.shown.ensures
 
-pub returns-in-Hidden : goal.returns-in-Hidden
-returns-in-Hidden c =
+pub returns-in-Err : goal.returns-in-Err
+unfolding next
+returns-in-Err c =
     let a = c.args in
-    choice_refused a.choice a.part.now c.which_number-number.ensures c.in-Hidden.is c.refusal-at.ensures c.next.ensures
+    choice_refused (choice_by_number a.choice) a.part.now c.from-which.ensures (ap view_by_number c.in-Err.is) c.refusal.ensures c.next-in-Err.ensures

@@ -1,11 +1,15 @@
 -- `replies::left` meets its contract: one law at each way out. Assumes nothing.
+use Rattle.replies.specs.Texts.{next_octets}
+use mathlib.Core.Path.{ap}
+use Rattle.layout.specs.Answer.{by_number}
 use Rattle.replies.specs.Laws.Typed.{left_ok, left_refused}
 use Rattle.replies.proofs.left.Goals as goal
 
-pub returns-in-Accepted : goal.returns-in-Accepted
-returns-in-Accepted c =
-    left_ok c.in-Accepted.is c.args.out.now c.front.ensures c.ok-at.ensures c.next_octets.ensures
+pub returns-in-Ok : goal.returns-in-Ok
+unfolding next_octets
+returns-in-Ok c =
+    left_ok (ap by_number c.in-Ok.is) c.args.out.now c.front.ensures c.ok.ensures c.next.ensures
 
-pub returns-in-Refused : goal.returns-in-Refused
-returns-in-Refused c =
-    left_refused c.in-Refused.is c.args.out.now c.refusal.ensures
+pub returns-in-Err : goal.returns-in-Err
+returns-in-Err c =
+    left_refused (ap by_number c.in-Err.is) c.args.out.now c.refusal.ensures

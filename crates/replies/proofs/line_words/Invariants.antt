@@ -1,11 +1,7 @@
-use Prim.Native.Nat.{◌-◌, ◌≤◌}
-use lib.ListN.{length, take}
-use Rattle.text.specs.Typing.{Types}
+use lib.ListN.{take}
+use Rattle.text.specs.Typed.{Typed}
 use Rattle.replies.specs.Texts.{line_octet, words_text}
 use Rattle.replies.proofs.line_words.Given as goal
 
-abbrev pub invariant-loop-i : goal.invariant-loop-i
-invariant-loop-i l = (l.i ≤ length l.octets) × Types (words_text line_octet (take l.i l.octets)) l.initial.buf l.at l.buf l.end
-
-abbrev pub decreases-loop-i : goal.decreases-loop-i
-decreases-loop-i l = length l.octets - l.i
+abbrev pub invariant-loop-o : goal.invariant-loop-o
+invariant-loop-o l = Typed (words_text line_octet (take l.o-index l.octets)) l.initial.reply l.reply

@@ -1,8 +1,6 @@
 -- `replies::next` meets its contract: the word stands behind its space. Assumes nothing.
 use Rattle.text.specs.Laws.Typing.{types_behind}
-use Rattle.replies.specs.Texts.{next}
 use Rattle.replies.proofs.next.Goals as goal
 
 pub returns : goal.returns
-unfolding next
-returns c = types_behind c.octet-start.ensures c.decimal.ensures
+returns g c = types_behind c.octet.ensures c.type_into.ensures

@@ -1,9 +1,8 @@
 -- `replies::refusal` meets its contract: the words stand one behind the other. Assumes nothing.
 use Rattle.text.specs.Laws.Typing.{types_behind}
-use Rattle.replies.specs.Texts.{refusal_text}
+use Rattle.replies.specs.Texts.{next, refusal_text}
 use Rattle.replies.proofs.refusal.Goals as goal
 
 pub returns : goal.returns
-unfolding refusal_text
-returns c =
-    types_behind c.word-number.ensures (types_behind c.next-at.ensures c.next.ensures)
+unfolding next refusal_text
+returns c = types_behind c.word.ensures (types_behind (rw c.from.ensures at c.next.ensures) c.next-2.ensures)

@@ -1,18 +1,12 @@
 -- The words of an answer typed one behind the other: one law for each way through the code that types them.
-use Rattle.std.specs.Prelude.{◌≡◌, refl, ℕ, suc, ◌+◌, ◌-◌, ◌≤◌, ◌<◌, length, take, drop, get_or}
+use Rattle.std.specs.Prelude.{◌≡◌, refl, ℕ, suc, ◌+◌, ◌-◌, ◌<◌, length, take, drop, get_or}
 use Rattle.std.proofs.Math.Path.{sym, ap}
-use Rattle.std.proofs.Common.{◌∙◌, subst, arith, take-suc, take_all}
+use Rattle.std.proofs.Common.{◌∙◌, subst, arith, take-suc}
 use mathlib.Core.List.{List, [], ◌∷◌, ◌++◌, append_assoc, append-nil}
 use Rattle.std.proofs.Math.Seq.{take-append_seam}
 use Rattle.codec.specs.Frame.{Outcome, accepted, refused}
 use Rattle.papers.specs.Names.{text}
-use Rattle.layout.specs.declared.Answer.{Answer}
-use Rattle.layout.specs.declared.Answer.TheVariants.{Accepted, Refused}
-use Rattle.layout.specs.declared.View.{View}
-use Rattle.layout.specs.declared.View.TheVariants.{Shown, Hidden}
-use Rattle.layout.specs.declared.Choice.{Choice}
-use Rattle.layout.specs.declared.Reading.{Reading}
-use Rattle.layout.specs.Answer.{which_number}
+use Rattle.layout.specs.Answer.{Answer, Accepted, Refused, View, Shown, Hidden, Choice, Reading, which_number}
 use Rattle.scope.specs.Outputs.{answer_of, after, Leaves}
 use Rattle.scope.specs.Rebuilding.{category_given, octets_given}
 use Rattle.text.specs.Typing.{Types}
@@ -99,7 +93,7 @@ module _ (r : Reading) where
   unfolding reading_text read_in
   read_refused ea x = rw ea x
 
--- ---- the ways through `octet_words` and `number_words`: the first i words, and one more
+-- ---- the way through `words`: the first i words, and one more
 
 module _ {A : Type 0} (word : A → List ℕ) where
   words_last : (s : List A) (x : A) → words_text word (s ++ (x ∷ [])) ≡ words_text word s ++ word x
@@ -116,9 +110,6 @@ module _ {A : Type 0} (word : A → List ℕ) where
   words_more d s i h {l} {m} {q} {at} {after} {last} a b =
       let e : i + 1 ≡ suc i = omega arith in
       subst (λ x. Types x l at q last) (sym (ap (λ j. words_text word (take j s)) e ∙ ap (words_text word) (take-suc s i d h) ∙ words_last (take i s) (get_or s i d))) (types_behind a b)
-
-  pub words_whole : (s : List A) (i : ℕ) → length s ≤ i → {l m : List ℕ} {at last : ℕ} → Types (words_text word (take i s)) l at m last → Types (words_text word s) l at m last
-  words_whole s i h {l} {m} {at} {last} a = subst (λ t. Types (words_text word t) l at m last) (take_all i s h) a
 
 -- ---- of `line_words` and `sheet_text`
 

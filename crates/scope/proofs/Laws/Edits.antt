@@ -23,8 +23,7 @@ use Rattle.codec.proofs.Laws.Frame.{refused≢accepted}
 use Rattle.codec.proofs.Laws.Change.{Splice, new_octets, new_flag, spliced, flat-set, remove_absent, others_keep_text, others_keep_flag}
 use Rattle.papers.specs.Papers.{known, paper_of}
 use Rattle.papers.proofs.Laws.Papers.{good_paper, few_items}
-use Rattle.layout.specs.declared.Answer.TheVariants.{Accepted}
-use Rattle.layout.specs.Answer.{view_number}
+use Rattle.layout.specs.Answer.{Accepted, view_number}
 use Rattle.layout.specs.Record.{flatten, contents}
 use Rattle.layout.specs.Laws.Record.{unflatten-flatten}
 use Rattle.scope.specs.Reading.{field_of, read_of}

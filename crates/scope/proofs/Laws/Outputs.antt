@@ -9,8 +9,7 @@ use Rattle.std.proofs.Math.ListN.{length, take, drop}
 use Rattle.std.proofs.Math.Seq.{take-append_seam}
 use Rattle.codec.specs.Pick.{pick}
 use Rattle.codec.specs.Frame.{Outcome, accepted, refused}
-use Rattle.layout.specs.declared.Answer.{Answer}
-use Rattle.layout.specs.declared.Answer.TheVariants.{Accepted, Refused}
+use Rattle.layout.specs.Answer.{Answer, Accepted, Refused}
 use Rattle.layout.specs.Laws.Answer.{Refused≢Accepted}
 use Rattle.scope.specs.Outputs.{with_room, answer_of, after, Leaves}
 

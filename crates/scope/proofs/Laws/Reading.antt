@@ -19,8 +19,7 @@ use Rattle.codec.proofs.Laws.Longest.{okay_alone}
 use Rattle.papers.specs.Papers.{known, paper_of}
 use Rattle.papers.proofs.Laws.Papers.{good_paper, few_items, few_octets}
 use Rattle.layout.specs.declared.Record.{Record}
-use Rattle.layout.specs.declared.Reading.{Reading}
-use Rattle.layout.specs.declared.Answer.TheVariants.{Accepted, Refused}
+use Rattle.layout.specs.Answer.{Reading, Accepted, Refused}
 use Rattle.layout.specs.Record.{all_parts, flatten, unflatten, fits_paper, contents}
 use Rattle.layout.specs.Laws.Answer.{Accepted≢Refused, Refused≢Accepted}
 use Rattle.layout.specs.Laws.Record.{length_parts, lawful_contents}

@@ -9,7 +9,7 @@ use Rattle.codec.specs.Frame.{Outcome, accepted, refused, read_frame}
 use Rattle.codec.specs.Meaning.{len_of}
 use Rattle.codec.proofs.Laws.Within.{PlaceTo, within_body, frame_place}
 use Rattle.papers.specs.Papers.{known, paper_of}
-use Rattle.layout.specs.declared.Answer.TheVariants.{Refused}
+use Rattle.layout.specs.Answer.{Refused}
 use Rattle.scope.specs.Reading.{field_of, no_record, shown, read_of}
 use Rattle.layout.specs.Laws.Answer.{Accepted≢Refused}
 

@@ -20,10 +20,8 @@ use Rattle.codec.proofs.Laws.Field.{body_write, length-texts, text_absent}
 use Rattle.codec.proofs.Laws.Frame.{Front}
 use Rattle.codec.proofs.Laws.View.{view_flat, before_mono, before_most}
 use Rattle.papers.specs.Papers.{known, paper_of, items_of}
-use Rattle.layout.specs.declared.View.{View}
-use Rattle.layout.specs.declared.View.TheVariants.{Shown, Hidden}
+use Rattle.layout.specs.Answer.{View, Shown, Hidden, view_number}
 use Rattle.layout.specs.declared.Which.TheVariants.{Neither, Base, Correction}
-use Rattle.layout.specs.Answer.{view_number}
 use Rattle.scope.specs.Reading.{field_of}
 use Rattle.scope.specs.Views.{is_item, present, standing, view_in, view_of, part_of, choose_in, choose_of}
 use Rattle.scope.proofs.Laws.Reading.{Read, read_made, one_reading, read_front}

@@ -9,7 +9,7 @@ use Rattle.codec.specs.Frame.{Outcome, accepted, refused, read_frame, write_fram
 use Rattle.codec.specs.Meaning.{len_of}
 use Rattle.papers.specs.Papers.{paper_of, items_of}
 use Rattle.papers.proofs.Laws.Papers.{good_paper, few_items, few_octets}
-use Rattle.layout.specs.declared.View.TheVariants.{Hidden}
+use Rattle.layout.specs.Answer.{Hidden}
 use Rattle.scope.specs.Reading.{field_of}
 use Rattle.scope.specs.Outputs.{with_room}
 use Rattle.scope.specs.Views.{is_item, present, view_of}

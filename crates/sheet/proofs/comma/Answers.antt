@@ -1,9 +1,10 @@
 -- `sheet::comma` meets its contract. Assumes nothing.
+use borrow.Author.Rules.{rules}
 use Rattle.sheet.specs.Laws.Rows.{comma_none, comma_there}
 use Rattle.sheet.proofs.comma.Goals as goal
 
-pub returns-then-first : goal.returns-then-first
-returns-then-first c = let a = c.args in comma_none c.if-first.true a.buf.now a.at
+pub returns-then-not-first : goal.returns-then-not-first
+returns-then-not-first c = comma_there (search rules) c.octet.ensures
 
-pub returns : goal.returns
-returns c = comma_there c.if-first.false c.octet.ensures
+pub returns-else-not-first : goal.returns-else-not-first
+returns-else-not-first c = comma_none (search rules) _ _

@@ -1,11 +1,6 @@
--- `sheet::typed` meets its contract: one law at each way out. Assumes nothing.
-use Rattle.sheet.specs.Laws.Whole.{sheet_empty, sheet_parts}
+-- `sheet::typed` meets its contract where there is no octet. Assumes nothing.
+use Rattle.sheet.specs.Laws.Whole.{sheet_empty}
 use Rattle.sheet.proofs.typed.Goals as goal
 
-pub returns-then-input-eq0 : goal.returns-then-input-eq0
-returns-then-input-eq0 c =
-    sheet_empty c.args.input.now c.if-input-eq0.true c.word-next.ensures c.refusal.ensures
-
-pub returns : goal.returns
-returns c =
-    sheet_parts c.args.input.now c.if-input-eq0.false c.listed.ensures
+pub returns-in_default : goal.returns-in_default
+returns-in_default c = sheet_empty c.args.input.now c.in_default.ensures.cases c.word.ensures (rw c.at.ensures at c.refusal.ensures)

@@ -6,7 +6,7 @@ use mathlib.Core.List.{List, [], ◌∷◌, ◌++◌, map}
 use Prim.Native.Nat.{ℕ, zero, suc, ◌+◌, ◌-◌, ◌≤◌}
 use native.Mathlib.Omega.{arith}
 use Rattle.std.proofs.lemmas.Bool.{eqb-false}
-use Rattle.std.proofs.Math.Dec.{T, ltb, eqb-suc-zero}
+use Rattle.std.proofs.Math.Dec.{T, ltb, leb, leb→le, eqb-suc-zero}
 use Rattle.std.proofs.Math.ListN.{length, get_or, length-take, length-drop, get_or-map, get_or-eq_default}
 use Rattle.codec.specs.Pick.{pick}
 use Rattle.codec.specs.Line.{Line, count}
@@ -29,7 +29,7 @@ use Rattle.text.specs.Laws.Typing.{types_as, types_none}
 use Rattle.sheet.specs.Keys.{span, keys_from, keyed}
 use Rattle.sheet.specs.Laws.Keys.{groups}
 use Rattle.sheet.specs.Lines.{is_there, line_keyed, lines_keyed, item_keyed}
-use Rattle.sheet.specs.Items.{nobody, named, named_at, ItemTyped}
+use Rattle.sheet.specs.Items.{nobody, named, named_at, KeysOf, ItemTyped}
 
 -- each line has as many keys as numbers
 abbrev sizes : List (List Key) → List ℕ
@@ -224,3 +224,27 @@ pub arm_past : (ns : List ℤ) (base n k : ℕ) → 14 ≤ k → (l : List ℕ) 
 unfolding item_text chain_text lines_there lines_text numbers_text named_at named names048 names021 names007 lines_of
 arm_past ns base n k h l at zs hz el =
     types_as (sym (ap₂ (λ it nm. item_text it nm (n, zs)) (past_item k h) (get_or-eq_default named nobody h))) (types_none l at)
+
+-- ---- the keys of an item, which the check computes with a text that it is given
+
+pub keys_as : {k : ℕ} (j : ℕ) → k ≡ j → (t : List ℕ) → groups (length (lines_of (item_at j))) t ≡ (named_at j).keys → T (leb (length t) 1_000) → KeysOf k t
+keys_as j e t eg h = subst (λ i. KeysOf i t) (sym e) (record { grouped = eg; few = leb→le (length t) 1_000 h })
+
+-- the other items have no line for a chain
+pub no_chain : (k : ℕ) → (k ≡ 1 → ⊥) → (k ≡ 9 → ⊥) → (k ≡ 10 → ⊥) → (n : ℕ) → chain_text (item_at k) (named_at k) n ≡ []
+unfolding named_at named names048 names021 names007 item_at items cat048 cat021 cat007 chain_text
+no_chain zero a b c n = refl
+no_chain (suc zero) a b c n = absurd (a refl)
+no_chain (suc (suc zero)) a b c n = refl
+no_chain (suc (suc (suc zero))) a b c n = refl
+no_chain (suc (suc (suc (suc zero)))) a b c n = refl
+no_chain (suc (suc (suc (suc (suc zero))))) a b c n = refl
+no_chain (suc (suc (suc (suc (suc (suc zero)))))) a b c n = refl
+no_chain (suc (suc (suc (suc (suc (suc (suc zero))))))) a b c n = refl
+no_chain (suc (suc (suc (suc (suc (suc (suc (suc zero)))))))) a b c n = refl
+no_chain (suc (suc (suc (suc (suc (suc (suc (suc (suc zero))))))))) a b c n = absurd (b refl)
+no_chain (suc (suc (suc (suc (suc (suc (suc (suc (suc (suc zero)))))))))) a b c n = absurd (c refl)
+no_chain (suc (suc (suc (suc (suc (suc (suc (suc (suc (suc (suc zero))))))))))) a b c n = refl
+no_chain (suc (suc (suc (suc (suc (suc (suc (suc (suc (suc (suc (suc zero)))))))))))) a b c n = refl
+no_chain (suc (suc (suc (suc (suc (suc (suc (suc (suc (suc (suc (suc (suc zero))))))))))))) a b c n = refl
+no_chain (suc (suc (suc (suc (suc (suc (suc (suc (suc (suc (suc (suc (suc (suc k)))))))))))))) a b c n = ap (λ it. chain_text it (named_at (suc (suc (suc (suc (suc (suc (suc (suc (suc (suc (suc (suc (suc (suc k))))))))))))))) n) (past_item (suc (suc (suc (suc (suc (suc (suc (suc (suc (suc (suc (suc (suc (suc k)))))))))))))) (omega arith))

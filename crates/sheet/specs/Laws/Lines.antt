@@ -1,9 +1,10 @@
 -- The lines of an item, by the keys that the code keeps: what it types of them.
 use Rattle.std.specs.Prelude.{◌≡◌, Bool, true, false, ℕ, zero, suc, ◌+◌, ◌-◌, ◌≤◌, ◌<◌, ltb, eqb, ℤ, length, get_or, take}
-use Rattle.std.proofs.Math.Path.{refl, ap, ap₂}
-use Rattle.std.proofs.Common.{sym, ◌∙◌, add-one, arith, eq-eqb, ne_eqb, drop_of_length-le, drop-cons, take_all}
+use Rattle.std.proofs.Math.Path.{refl, ap}
+use Rattle.std.proofs.Common.{sym, ◌∙◌, add-one, arith, eq-eqb, ne_eqb, lt-ltb, le-ltb, ltb-true, drop_of_length-le, drop-cons}
+use borrow.Author.Tests.{ltb-false}
 use mathlib.Core.List.{List, []}
-use Rattle.std.proofs.Math.ListN.{drop, length-drop}
+use Rattle.std.proofs.Math.ListN.{drop}
 use Rattle.codec.specs.Pick.{pick}
 use Rattle.codec.specs.Item.{is_one}
 use Rattle.layout.specs.Record.{number_at}
@@ -34,6 +35,13 @@ module _ (t : List ℕ) (i : ℕ) (h : i < length t) (e : span t ≡ i + span (d
       let z : span (drop i t) ≡ suc (span (drop (i + 1) t)) = here ∙ rw (ne_eqb (get_or t i 0) 32 k) (ap (λ j. suc (span (drop j t))) (sym (add-one i))) in
       omega arith
 
+-- no octet before i is a space
+pub span_past : (t : List ℕ) (i : ℕ) → i ≤ length t → ((k : ℕ) → k < i → get_or t k 0 ≡ 32 → ⊥) → span t ≡ i + span (drop i t)
+span_past t zero h f = omega arith
+span_past t (suc i) h f =
+    let n : suc i ≡ i + 1 = omega arith in
+    rw n (span_on t i h (span_past t i (omega arith) (λ k l. f k (omega arith))) (f i (omega arith)))
+
 -- ---- the ways out of `is_there` and `line`
 
 module _ (ns : List ℤ) (n b parts base : ℕ) where
@@ -41,9 +49,17 @@ module _ (ns : List ℤ) (n b parts base : ℕ) where
   unfolding is_there
   there_sub z ef et = et ∙ ap (λ f. is_one (number_at ns (base + f))) ef ∙ rw (eq-eqb parts 0 z) refl
 
-  pub there_part : (parts ≡ 0 → ⊥) → ltb 0 n ≡ is_there ns n b parts base
+  there_part : (parts ≡ 0 → ⊥) → ltb 0 n ≡ is_there ns n b parts base
   unfolding is_there
   there_part z = rw (ne_eqb parts 0 z) refl
+
+  -- the count reaches chain part i
+  pub there_reached : (i m : ℕ) → n ≡ m - i → (parts ≡ 0 → ⊥) → ltb i m ≡ is_there ns n b parts base
+  there_reached i m en z = go (ltb i m) refl ∙ there_part z
+    where
+      go : (t : Bool) → ltb i m ≡ t → ltb i m ≡ ltb 0 n
+      go true e = let h : i < m = ltb-true i m e in e ∙ sym (lt-ltb 0 n (omega arith))
+      go false e = let h : m ≤ i = ltb-false i m e in e ∙ sym (le-ltb 0 n (omega arith))
 
   module _ (t : List ℕ) {c : Bool} (ec : c ≡ is_there ns n b parts base) where
     pub line_there : c ≡ true → {slot : ℕ} → slot ≡ base + first_at b → {l m : List ℕ} {at next : ℕ} → Types (keyed (keys_from [] t) ns slot) l at m next → Types (line_keyed t ns n b parts base) l at m next
@@ -62,22 +78,20 @@ module _ (t : List ℕ) (ns : List ℤ) (n b parts left base : ℕ) where
   lines_end e l at = rw e (types_none l at)
 
   -- the first line has the octets before end, the others those behind it
-  pub lines_on : (left ≡ 0 → ⊥) → {end : ℕ} → end ≡ span t → {l m : List ℕ} {at next : ℕ} → Types (line_keyed (take end t) ns n b parts base) l at m next
-      → {j p : ℕ} → j ≡ n - 1 → p ≡ parts - 1 → {q : List ℕ} {last : ℕ} → Types (lines_keyed (take (length t - end) (drop end t)) ns j (b + 1) p (left - 1) base) m next q last
+  pub lines_on : (left ≡ 0 → ⊥) → {end : ℕ} → end ≡ span t → {own behind : List ℕ} → own ≡ take end t → behind ≡ drop end t → {l m : List ℕ} {at next : ℕ} → Types (line_keyed own ns n b parts base) l at m next
+      → {j c p x : ℕ} → j ≡ n - 1 → c ≡ b + 1 → p ≡ parts - 1 → x ≡ left - 1 → {q : List ℕ} {last : ℕ} → Types (lines_keyed behind ns j c p x base) m next q last
       → Types (lines_keyed t ns n b parts left base) l at q last
   unfolding lines_keyed
-  lines_on some {end} ee {l} {m} {at} {next} a {j} {p} ej ep {q} {last} r = go left some (types_as same r)
+  lines_on some {end} ee {own} {behind} eo eb {l} {m} {at} {next} a {j} {c} {p} {x} ej ec ep ex {q} {last} r = go left some (types_as same r)
     where
-      same : lines_keyed (take (length t - end) (drop end t)) ns j (b + 1) p (left - 1) base ≡ lines_keyed (drop (span t) t) ns (n - 1) (b + 1) (parts - 1) (left - 1) base
-      same =
-          ap₂ (λ x y. lines_keyed (take (length t - end) (drop end t)) ns x (b + 1) y (left - 1) base) ej ep
-          ∙ ap (λ x. lines_keyed x ns (n - 1) (b + 1) (parts - 1) (left - 1) base) (take_all (length t - end) (drop end t) (omega (arith, length-drop end t)) ∙ ap (λ i. drop i t) ee)
+      same : lines_keyed behind ns j c p x base ≡ lines_keyed (drop (span t) t) ns (n - 1) (b + 1) (parts - 1) (left - 1) base
+      same = rw (eb, ee, ej, ec, ep, ex) refl
 
       go : (left : ℕ) → (left ≡ 0 → ⊥) → Types (lines_keyed (drop (span t) t) ns (n - 1) (b + 1) (parts - 1) (left - 1) base) m next q last → Types (lines_keyed t ns n b parts left base) l at q last
       go zero z r = absurd (z refl)
       go (suc i) z r =
           let e : suc i - 1 ≡ i = omega arith in
-          types_behind (types_as (ap (λ x. line_keyed (take x t) ns n b parts base) ee) a) (types_as (ap (λ x. lines_keyed (drop (span t) t) ns (n - 1) (b + 1) (parts - 1) x base) e) r)
+          types_behind (types_as (ap (λ u. line_keyed u ns n b parts base) (eo ∙ ap (λ i. take i t) ee)) a) (types_as (ap (λ x. lines_keyed (drop (span t) t) ns (n - 1) (b + 1) (parts - 1) x base) e) r)
 
 module _ (t : List ℕ) (ns : List ℤ) (n k base : ℕ) {s : Shape} (es : s ≡ shape_at k) {l m : List ℕ} {at next : ℕ} where
   pub item_single : s.1 ≡ 0 → Types (lines_keyed t ns 1 s.0 1 1 base) l at m next → Types (item_keyed t ns n k base) l at m next

@@ -1,25 +1,16 @@
 -- The lines of one number, of a position, an altitude and a pressure.
-use Rattle.std.specs.Prelude.{◌≡◌, Bool, true, false, List, [], ◌∷◌, ◌++◌, ℕ, ◌+◌, ◌≤◌, ◌<◌, ltb, eqb, ℤ, length}
+use Rattle.std.specs.Prelude.{◌≡◌, Bool, true, false, List, [], ◌∷◌, ◌++◌, ℕ, ◌+◌, ◌≤◌, eqb, ℤ, length}
 use Rattle.std.proofs.Math.Path.{refl, sym, ap}
 use Rattle.std.proofs.Common.{ap₂, ◌∙◌, append-nil, arith}
-use borrow.Author.Tests.{ne_eqb, lt-ltb, le-ltb}
 use Rattle.codec.specs.Pick.{pick}
 use Rattle.papers.specs.Names.{text, Key, hidden, shown, angle, pressure}
 use Rattle.layout.specs.Record.{number_at}
-use Rattle.scope.specs.Sheet.{key_line, signed_decimal, pressure_text, number_text}
+use Rattle.scope.specs.Sheet.{number_text, pressure_text}
 use Rattle.text.specs.Typing.{Types}
 use Rattle.text.specs.Laws.Typing.{types_as, types_behind, types_none}
-use Rattle.sheet.specs.Keys.{mark_is, meant, slots_in, keyed}
+use Rattle.sheet.specs.Keys.{meant, slots_in, keyed}
 
 -- ---- keys
-
-pub alone_key : (name : List ℕ) (z : ℤ) {l m : List ℕ} {at next : ℕ} → Types (key_line (name ++ []) (signed_decimal z)) l at m next → Types (number_text (shown name) z) l at m next
-unfolding number_text
-alone_key name z a = types_as (ap (λ k. key_line k (signed_decimal z)) (append-nil name)) a
-
-pub altitude_key : (name more : List ℕ) (z : ℤ) {y : ℤ} → y ≡ z → {l m : List ℕ} {at next : ℕ} → Types (key_line (name ++ more) (signed_decimal y)) l at m next → Types (number_text (shown (name ++ more)) z) l at m next
-unfolding number_text
-altitude_key name more z e a = types_as (ap (λ x. key_line (name ++ more) (signed_decimal x)) e) a
 
 pub pressure_keys : (name : List ℕ) (z : ℤ) {l m q : List ℕ} {at next last : ℕ}
     → Types (number_text (shown name) z) l at m next → Types (pressure_text name z) m next q last → Types (number_text (pressure name) z) l at q last
@@ -49,23 +40,11 @@ module _ (m : ℕ) (w : List ℕ) where
   unfolding meant
   meant_hidden e = rw e refl
 
-  pub meant_one : (m ≡ 64 → ⊥) → (m ≡ 62 → ⊥) → (m ≡ 63 → ⊥) → (m ≡ 58 → ⊥) → meant m w ≡ shown w ∷ []
+  pub meant_alone : m ≡ 61 → meant m w ≡ shown w ∷ []
   unfolding meant
-  meant_one p a q h = rw (ne_eqb m 64 p, ne_eqb m 62 a, ne_eqb m 63 q, ne_eqb m 58 h) refl
+  meant_alone e = rw e refl
 
 -- ---- how many numbers
-
-pub slots_two : (m : ℕ) → m ≡ 64 → 2 ≡ slots_in m
-unfolding slots_in
-slots_two m e = rw e
-
-pub slots_pair : (m : ℕ) → m ≡ 62 → 2 ≡ slots_in m
-unfolding slots_in
-slots_pair m e = rw e
-
-pub slots_one : (m : ℕ) → (m ≡ 64 → ⊥) → (m ≡ 62 → ⊥) → 1 ≡ slots_in m
-unfolding slots_in
-slots_one m p a = rw (ne_eqb m 64 p, ne_eqb m 62 a) refl
 
 pub slots_few : (m : ℕ) → slots_in m ≤ 2
 unfolding slots_in
@@ -103,11 +82,3 @@ module _ (ns : List ℤ) (slot : ℕ) {ks : List Key} where
   unfolding keyed
   keyed_two {j} {k} e {y = y} {z = z} ey ez a =
       types_as (ap₂ (λ a b. number_text j a ++ number_text k b) ey ez ∙ ap (number_text j (number_at ns slot) ++◌) (sym (append-nil (number_text k (number_at ns (slot + 1))))) ∙ ap (λ x. keyed x ns slot) (sym e)) a
-
-pub mark_above : (m : ℕ) → 57 < m → ltb m 65 ≡ mark_is m
-unfolding mark_is
-mark_above m h = rw (lt-ltb 57 m h) refl
-
-pub mark_below : (m : ℕ) → m ≤ 57 → false ≡ mark_is m
-unfolding mark_is
-mark_below m h = rw (le-ltb 57 m h) refl

@@ -1,9 +1,9 @@
 -- The whole sheet, from the record that was read.
-use Rattle.std.specs.Prelude.{◌≡◌, Bool, true, false, T, eqb, pos, get_or, take, drop, replicate}
+use Rattle.std.specs.Prelude.{◌≡◌, Bool, true, false, T, eqb, pos, take, drop, replicate}
 use Rattle.std.proofs.Math.Path.{refl, ap, ap₂}
-use Rattle.std.proofs.Common.{sym, ◌∙◌, subst, arith, eqb-true, length-take, take_all}
+use Rattle.std.proofs.Common.{sym, ◌∙◌, subst, arith, eqb-true, length-take}
 use mathlib.Core.List.{List, [], ◌∷◌, ◌++◌}
-use Prim.Native.Nat.{ℕ, suc, ◌-◌, ◌≤◌}
+use Prim.Native.Nat.{ℕ, ◌-◌, ◌≤◌}
 use Rattle.std.proofs.Math.ListN.{length, length-append, length-replicate}
 use Rattle.codec.specs.Pick.{pick}
 use Rattle.codec.specs.Codec.{Octets}
@@ -18,8 +18,7 @@ use Rattle.papers.specs.Names.{text, names048, names021, names007, names_of}
 use Rattle.papers.specs.Papers.{known, paper_of, items_of, SLOTS, all_slots}
 use Rattle.papers.proofs.Laws.Papers.{few_slots}
 use Rattle.layout.specs.declared.Record.{Record}
-use Rattle.layout.specs.declared.Reading.{Reading}
-use Rattle.layout.specs.declared.Answer.TheVariants.{Accepted, Refused}
+use Rattle.layout.specs.Answer.{Reading, Accepted, Refused}
 use Rattle.layout.specs.Record.{regroup, flatten, unflatten, all_numbers}
 use Rattle.layout.specs.Laws.Record.{unflatten-flatten, length_numbers}
 use Rattle.scope.specs.Reading.{field_of, shown, read_of}
@@ -29,7 +28,10 @@ use Rattle.scope.proofs.Laws.Reading.{Read, read_found, read_okay}
 use Rattle.spots.specs.Spots.{spot_at, spots, spots_from, spot_of, items_from, held_from}
 use Rattle.spots.specs.Laws.Spots.{spots_right}
 use Rattle.text.specs.Typing.{Types}
+use Rattle.text.specs.Typed.{blank, Typed}
 use Rattle.text.specs.Laws.Typing.{types_as, types_behind, typed_front}
+use Rattle.text.specs.Laws.Typed.{stands}
+use Rattle.text.specs.declared.Text.{Text}
 use Rattle.longest.proofs.Laws.Longest.{sheet_longest}
 use Rattle.sheet.specs.Items.{named, named_at}
 use Rattle.sheet.specs.Rows.{names_from, comma_of}
@@ -137,11 +139,6 @@ unfolding sheet_of key_line
 sheet_empty [] e a b = types_behind a b
 sheet_empty (x ∷ t) e a b = absurd (omega arith)
 
--- the first octet, and those behind it
-pub sheet_parts : (t : List ℕ) → (length t ≡ 0 → ⊥) → {l m : List ℕ} {at next : ℕ} → Types (sheet_of (get_or t 0 0 ∷ take (length t - 1) (drop 1 t))) l at m next → Types (sheet_of t) l at m next
-sheet_parts [] z a = absurd (z refl)
-sheet_parts (x ∷ t) z a = types_as (ap (λ s. sheet_of (x ∷ s)) (take_all (suc (length t) - 1) t (omega arith))) a
-
 -- the buffer holds it, and it stands in front
 pub record Standing (xs m : List ℕ) (end : ℕ) : Type 0 where
   pub text_is : take end m ≡ xs
@@ -153,3 +150,7 @@ sheet_stands s o {l} {m} {end} k a =
     let f = typed_front (sheet_of s) (omega (arith, sheet_longest s o)) k a in
     let e : end ≡ length (take end m) = f.0 ∙ ap length (sym f.1) in
     record { text_is = f.1; within = omega (arith, e, length-take end m); whole = e }
+
+-- a text holds it
+pub sheet_held : (s : List ℕ) → Octets s → {t t' : Text} → t ≡ blank → Typed (sheet_of s) t t' → {x : List ℕ} → x ≡ take t'.end t'.octets → x ≡ sheet_of s
+sheet_held s o e a ex = stands (sheet_of s) (omega (arith, sheet_longest s o)) e a ex

@@ -1,20 +1,10 @@
 -- `taken::category` meets its contract. Assumes nothing.
-use borrow.Author.Rules.{rules}
 use Rattle.taken.specs.Laws.Names.{category_021, category_007, category_048}
 use Rattle.taken.proofs.category.Goals as goal
-
-pub line-first-requires : goal.line-first-requires
-line-first-requires c = search rules
-
-pub opens-requires : goal.opens-requires
-opens-requires c = search rules
 
 pub returns-then-opens : goal.returns-then-opens
 returns-then-opens c =
     category_021 c.args.t.now c.line-first.ensures c.opens.ensures c.if-opens.true
-
-pub opens-requires-2 : goal.opens-requires-2
-opens-requires-2 c = search rules
 
 pub returns-then-opens-2 : goal.returns-then-opens-2
 returns-then-opens-2 c =

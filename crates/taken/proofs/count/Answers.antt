@@ -1,19 +1,12 @@
 -- `taken::count` meets its contract. Assumes nothing.
 use mathlib.Core.Path.{◌∙◌}
 use native.Mathlib.Omega.{arith}
-use borrow.Author.Rules.{rules}
 use Rattle.shapes.specs.Laws.Shapes.{shaped-well}
 use Rattle.taken.specs.Laws.Items.{count_at}
 use Rattle.taken.proofs.count.Goals as goal
 
-pub shape_at-shape-requires : goal.shape_at-shape-requires
-shape_at-shape-requires c = search rules
-
 pub parts-requires : goal.parts-requires
 parts-requires c = omega (arith, (shaped-well c.args.k c.shape_at-shape.ensures).few)
-
-pub octet-requires : goal.octet-requires
-octet-requires c = search rules
 
 pub returns : goal.returns
 returns c =

@@ -1,6 +1,5 @@
 -- `taken::is_there` meets its contract: the words are the heads of the lines. Assumes nothing.
 use mathlib.Core.Path.{◌≡◌, refl}
-use borrow.Author.Rules.{rules}
 use Rattle.papers.specs.Cat048.{cat048}
 use Rattle.papers.specs.Cat021.{cat021}
 use Rattle.papers.specs.Cat007.{cat007}
@@ -20,12 +19,6 @@ heads_are = refl
 
 pub returns-then-n-eq0 : goal.returns-then-n-eq0
 returns-then-n-eq0 c = let a = c.args in there_none a.b a.n a.t.now c.if-n-eq0.true
-
-pub word-requires : goal.word-requires
-word-requires c = search rules
-
-pub opens-requires : goal.opens-requires
-opens-requires c = search rules
 
 pub returns : goal.returns
 returns c =

@@ -1,13 +1,9 @@
 -- `taken::item` meets its contract: one law for each shape of an item. Assumes nothing.
 use native.Mathlib.Omega.{arith}
-use borrow.Author.Rules.{rules}
 use mir.Facts.{Fits-of_lt}
 use Rattle.shapes.specs.Laws.Shapes.{shaped-well}
 use Rattle.taken.specs.Laws.Items.{parts_most, single_asks, parts_asks, subfields-asks, flags-asks, item_single, item_parts, item_subfields}
 use Rattle.taken.proofs.item.Goals as goal
-
-pub shape_at-shape-requires : goal.shape_at-shape-requires
-shape_at-shape-requires c = search rules
 
 pub lines-requires : goal.lines-requires
 lines-requires c =
@@ -21,9 +17,6 @@ returns-then-most-eq0 c =
 
 pub parts-there-requires : goal.parts-there-requires
 parts-there-requires c = omega (arith, (shaped-well c.args.k c.shape_at-shape.ensures).few)
-
-pub behind_parts-rest-requires : goal.behind_parts-rest-requires
-behind_parts-rest-requires c = search rules
 
 pub lines-requires-then-shape-eq0 : goal.lines-requires-then-shape-eq0
 lines-requires-then-shape-eq0 c =
@@ -40,9 +33,6 @@ overflow_add-b c =
     let a = c.args in
     let few = (shaped-well a.k c.shape_at-shape.ensures).few in
     Fits-of_lt (omega (arith, few, c.parts-there.ensures, parts_most a.k c.shape_at-shape.ensures a.t.now))
-
-pub first_of-n-requires : goal.first_of-n-requires
-first_of-n-requires c = search rules
 
 pub overflow_add-b-2 : goal.overflow_add-b-2
 overflow_add-b-2 c =

@@ -1,16 +1,9 @@
 -- `taken::parts` meets its contract. Assumes nothing.
-use borrow.Author.Rules.{rules}
 use Rattle.taken.specs.Laws.Items.{parts_few, parts_told}
 use Rattle.taken.proofs.parts.Goals as goal
 
 pub returns-then-most-lt2 : goal.returns-then-most-lt2
 returns-then-most-lt2 c = let a = c.args in parts_few a.most a.t.now c.if-most-lt2.true
-
-pub overflow_cast-most : goal.overflow_cast-most
-overflow_cast-most c = search rules
-
-pub bounded-requires : goal.bounded-requires
-bounded-requires c = search rules
 
 pub returns : goal.returns
 returns c = let a = c.args in parts_told a.most a.t.now c.if-most-lt2.false c.bounded.ensures

@@ -2,7 +2,7 @@
 use mathlib.Core.Path.{◌≡◌, refl, ap, ◌∙◌, subst}
 use Prim.Native.Nat.{ℕ, zero, suc, ◌-◌, ◌^◌, ◌≤◌, ◌<◌}
 use native.Mathlib.Omega.{arith}
-use borrow.Author.Rules.{rules, sfits_of}
+use borrow.Author.Rules.{sfits_of}
 use lib.Dec.{T, leb→le}
 use lib.IntN.{ℤ, pos, negsuc}
 use mir.Facts.{to_z-of_z}
@@ -39,12 +39,6 @@ kind_last (suc (suc zero)) h a b = absurd (a refl)
 kind_last (suc (suc (suc zero))) h a b = absurd (b refl)
 kind_last (suc (suc (suc (suc k)))) h a b = refl
 
-pub top-requires : goal.top-requires
-top-requires c = search rules
-
-pub ranged-requires : goal.ranged-requires
-ranged-requires c = search rules
-
 pub returns-then-kind-lt2 : goal.returns-then-kind-lt2
 unfolding lowest highest
 returns-then-kind-lt2 c =
@@ -57,12 +51,6 @@ pub overflow_sub-w : goal.overflow_sub-w
 overflow_sub-w c =
     some_bits c.args.kind c.args.w c.if-kind-eq2.true c.requires.1
 
-pub top-high-requires : goal.top-high-requires
-top-high-requires c = search rules
-
-pub ranged-requires-then-kind-eq2 : goal.ranged-requires-then-kind-eq2
-ranged-requires-then-kind-eq2 c = search rules
-
 pub returns-then-kind-eq2 : goal.returns-then-kind-eq2
 unfolding lowest highest kind_of
 returns-then-kind-eq2 c =
@@ -74,18 +62,12 @@ returns-then-kind-eq2 c =
     rw (to_z-of_z (sfits_of {w = w32} {z = c.ranged-then-kind-eq2.result} c.ranged-then-kind-eq2.type_inv))
     (piece_between a.kind w a.t.now signed (ap kind_of c.if-kind-eq2.true) c.requires.0 c.requires.1 (flipped c.top-high.result (2 ^ (w - 1) - 1) c.top-high.ensures few ∙ ap negsuc (half_top w one)) (c.top-high.ensures ∙ ap pos (half_top w one)) (rw (to_z-of_z ft) at c.ranged-then-kind-eq2.ensures))
 
-pub ranged-requires-then-kind-eq3 : goal.ranged-requires-then-kind-eq3
-ranged-requires-then-kind-eq3 c = search rules
-
 pub returns-then-kind-eq3 : goal.returns-then-kind-eq3
 unfolding lowest highest kind_of
 returns-then-kind-eq3 c =
     let a = c.args in
     rw (to_z-of_z (sfits_of {w = w32} {z = c.ranged-then-kind-eq3.result} c.ranged-then-kind-eq3.type_inv))
     (piece_between a.kind a.w a.t.now (limited (negsuc 4194303) (pos 4194304)) (ap kind_of c.if-kind-eq3.true) c.requires.0 c.requires.1 refl refl c.ranged-then-kind-eq3.ensures)
-
-pub ranged-requires-2 : goal.ranged-requires-2
-ranged-requires-2 c = search rules
 
 pub returns : goal.returns
 unfolding lowest highest

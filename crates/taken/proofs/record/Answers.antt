@@ -1,6 +1,5 @@
 -- `taken::record` meets its contract: category, names and row are the guess's. Assumes nothing.
 use mathlib.Core.Path.{ap, ◌∙◌}
-use borrow.Author.Rules.{rules}
 use Rattle.codec.proofs.Laws.Tests.{holds}
 use Rattle.papers.specs.Papers.{known}
 use Rattle.spots.specs.Laws.Spots.{row-asks}
@@ -9,29 +8,11 @@ use Rattle.guess.proofs.Laws.Whole.{category_in_lem}
 use Rattle.taken.specs.Laws.Record.{record_is}
 use Rattle.taken.proofs.record.Goals as goal
 
-pub category-cat-requires : goal.category-cat-requires
-category-cat-requires c = search rules
-
-pub spot_of-first-requires : goal.spot_of-first-requires
-spot_of-first-requires c = search rules
-
-pub items_of-n-requires : goal.items_of-n-requires
-items_of-n-requires c = search rules
-
-pub skip-t-requires : goal.skip-t-requires
-skip-t-requires c = search rules
-
-pub value-requires : goal.value-requires
-value-requires c = search rules
-
 pub names-items-requires : goal.names-items-requires
 names-items-requires c =
     let t = c.args.text.now in
     let g = row-asks c.category-cat.result (ap known c.category-cat.ensures ∙ holds (known (category_in t)) (category_in_lem t)) c.spot_of-first.ensures c.items_of-n.ensures in
     (g.0, g.1)
-
-pub next-requires : goal.next-requires
-next-requires c = search rules
 
 pub row-requires : goal.row-requires
 row-requires c =

@@ -2,22 +2,12 @@
 use mathlib.Core.Path.{ap, ◌∙◌}
 use Prim.Native.Nat.{◌-◌, ◌^◌, ◌/◌}
 use native.Mathlib.Omega.{arith}
-use borrow.Author.Rules.{rules}
 use lib.IntN.{pos}
 use mir.Facts.{to_z-of_z}
 use mir.Syntax.{w32}
 use mir.Val.{SFits}
 use Rattle.taken.specs.Laws.Numbers.{top_is, top_most}
 use Rattle.taken.proofs.top.Goals as goal
-
-pub overflow_sub-result : goal.overflow_sub-result
-overflow_sub-result c = search rules
-
-pub overflow_shr-result : goal.overflow_shr-result
-overflow_shr-result c = search rules
-
-pub overflow_cast-result : goal.overflow_cast-result
-overflow_cast-result c = let w = c.args.w in record { sfits = omega (arith, top_is w c.requires, top_most w c.requires) }
 
 pub returns : goal.returns
 returns c =

@@ -1,5 +1,5 @@
 -- So many lines from a line of the table on: those of the guess, what they are of no text, and the ways out of the code.
-use Rattle.std.specs.Prelude.{◌≡◌, refl, Bool, true, false, ◌&&◌, T, eqb, ltb, pos, length, replicate}
+use Rattle.std.specs.Prelude.{◌≡◌, refl, Bool, true, false, ◌&&◌, T, eqb, ltb, pos, length, replicate, ◌<◌}
 use Rattle.std.proofs.Common.{sym, ◌∙◌, add-one, lt-ltb, eqb→eq, length-append}
 use Rattle.std.proofs.Math.Path.{ap, ap₂}
 use mathlib.Core.List.{List, [], ◌∷◌, ◌++◌}
@@ -245,3 +245,35 @@ module _ (b left : ℕ) (some : left ≡ 0 → ⊥) where
 pub flags_none : (b left n slot : ℕ) (t : List ℕ) (l : List ℤ) → left ≡ 0 → l ≡ sets l slot (flags_from b left n t)
 unfolding flags_from
 flags_none b left n slot t l e = rw e refl
+
+-- ---- the loops of `lines` and `flags`, i lines being passed
+
+-- what is asked of the lines that are left
+pub asks_next : (b left i : ℕ) → i < left → (base : ℕ) → (b + i + (left - i) ≤ 300) × T (in_turn (b + i) (left - i)) × Room base (b + i) (left - i)
+    → (b + (i + 1) + (left - (i + 1)) ≤ 300) × T (in_turn (b + (i + 1)) (left - (i + 1))) × Room base (b + (i + 1)) (left - (i + 1))
+asks_next b left i h base g =
+    let eb : b + (i + 1) ≡ b + i + 1 = omega arith in
+    let el : left - (i + 1) ≡ left - i - 1 = omega arith in
+    rw (eb, el) (rest_asks (b + i) (left - i) (λ e. omega arith) base g)
+
+module _ (b left n i : ℕ) (h : i < left) (t : List ℕ) {x : Bool} (ex : x ≡ there_at (b + i) (n - i) t) {u : List ℕ} (eu : u ≡ pick x (behind_at (b + i) t) t) where
+  ahead : left - i ≡ 0 → ⊥
+  ahead e = omega arith
+
+  pub flags_next : (slot : ℕ) (l : List ℤ) {q : List ℤ} → q ≡ set l (slot + i) (bit x)
+      → sets q (slot + (i + 1)) (flags_from (b + (i + 1)) (left - (i + 1)) (n - (i + 1)) u) ≡ sets l (slot + i) (flags_from (b + i) (left - i) (n - i) t)
+  flags_next slot l {q} eq =
+      let es : slot + (i + 1) ≡ slot + i + 1 = omega arith in
+      let eb : b + (i + 1) ≡ b + i + 1 = omega arith in
+      let el : left - (i + 1) ≡ left - i - 1 = omega arith in
+      let en : n - (i + 1) ≡ n - i - 1 = omega arith in
+      flags_step (b + i) (left - i) ahead (n - i) t ex eu en l (slot + i) eq (rw (es, eb, el) refl)
+
+  pub lines_next : T (in_turn (b + i) (left - i)) → (base : ℕ) (l : List ℤ) {q : List ℤ} → q ≡ sets l (base + first_at (b + i)) (taken_at (b + i) (pick x t []))
+      → (left_from (b + (i + 1)) (left - (i + 1)) (n - (i + 1)) u ≡ left_from (b + i) (left - i) (n - i) t)
+      × (sets q (base + first_at (b + (i + 1))) (taken_from (b + (i + 1)) (left - (i + 1)) (n - (i + 1)) u) ≡ sets l (base + first_at (b + i)) (taken_from (b + i) (left - i) (n - i) t))
+  lines_next turn base l {q} eq =
+      let eb : b + (i + 1) ≡ b + i + 1 = omega arith in
+      let el : left - (i + 1) ≡ left - i - 1 = omega arith in
+      let en : n - (i + 1) ≡ n - i - 1 = omega arith in
+      lines_step (b + i) (left - i) ahead (n - i) t ex eu en turn base l eq (rw (eb, el) refl, rw (eb, el) refl)

@@ -101,6 +101,39 @@ module _ (left code : ℕ) (some : left ≡ 0 → ⊥) where
           g.1 ∙ ap₂ (λ x j. sets x j (taken_by step qs u)) (eq ∙ ap (set l slot) ez) (add-one slot) ∙ ap (λ x. sets (set l slot (piece_in k w t)) (suc slot) (taken_by step qs x)) eu,
         )
 
+-- ---- the loop of `numbers`, i pieces being passed
+
+module _ (left code i : ℕ) (h : i < left) where
+  ahead : left - i ≡ 0 → ⊥
+  ahead e = omega arith
+
+  less : left - (i + 1) ≡ left - i - 1
+  less = omega arith
+
+  pub spare_next : code % 256 / 32 ≡ 0 → (step : ℕ) (t : List ℕ) (l : List ℤ) (slot : ℕ) → (slot + count (pieces_from (left - i) code) ≤ SLOTS) × T (ends_of (pieces_from (left - i) code))
+      → ((slot + count (pieces_from (left - (i + 1)) (code / 256)) ≤ SLOTS) × T (ends_of (pieces_from (left - (i + 1)) (code / 256))))
+      × (behind_by step (pieces_from (left - (i + 1)) (code / 256)) t ≡ behind_by step (pieces_from (left - i) code) t)
+      × (sets l slot (taken_by step (pieces_from (left - (i + 1)) (code / 256)) t) ≡ sets l slot (taken_by step (pieces_from (left - i) code) t))
+  spare_next e step t l slot g =
+      let k = spare_on (left - i) code ahead e step t l slot (refl, refl) in
+      rw less (spare_asks (left - i) code ahead e slot g, k.0, k.1)
+
+  module _ (e : code % 256 / 32 ≡ 0 → ⊥) where
+    abbrev kind : ℕ
+    kind = code % 256 / 32
+
+    abbrev width : ℕ
+    width = code % 256 % 32
+
+    pub num_room : (slot : ℕ) → (slot + count (pieces_from (left - i) code) ≤ SLOTS) × T (ends_of (pieces_from (left - i) code))
+        → ((width ≤ 24) × T (ends_right (kind_of kind) width)) × (slot < SLOTS) × ((slot + 1 + count (pieces_from (left - (i + 1)) (code / 256)) ≤ SLOTS) × T (ends_of (pieces_from (left - (i + 1)) (code / 256))))
+    num_room slot g = rw less (num_asks (left - i) code ahead e slot g)
+
+    pub num_next : (step : ℕ) (t : List ℕ) (l : List ℤ) (slot : ℕ) {z : ℤ} {q : List ℤ} {u : List ℕ} → z ≡ piece_in (kind_of kind) width t → q ≡ set l slot z → u ≡ behind_feeds step t
+        → (behind_by step (pieces_from (left - (i + 1)) (code / 256)) u ≡ behind_by step (pieces_from (left - i) code) t)
+        × (sets q (slot + 1) (taken_by step (pieces_from (left - (i + 1)) (code / 256)) u) ≡ sets l slot (taken_by step (pieces_from (left - i) code) t))
+    num_next step t l slot ez eq eu = rw less (num_on (left - i) code ahead e step t l slot ez eq eu (refl, refl))
+
 -- ---- of one line
 
 -- one key for each number, each with so many lines

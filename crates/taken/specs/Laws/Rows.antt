@@ -3,7 +3,8 @@ use Rattle.std.specs.Prelude.{◌≡◌, refl, Bool, true, false, T, ℤ, pos, g
 use Rattle.std.proofs.Math.Path.{sym, ap, ap₂}
 use Rattle.std.proofs.Common.{◌∙◌, add-one, eqb-true, leb→le}
 use mathlib.Core.List.{List, [], ◌∷◌, ◌++◌}
-use Prim.Native.Nat.{ℕ, suc, ◌+◌, ◌-◌, ◌≤◌}
+use Prim.Native.Nat.{ℕ, suc, ◌+◌, ◌-◌, ◌≤◌, ◌<◌}
+use native.Mathlib.Omega.{arith}
 use Rattle.std.proofs.lemmas.Bool.{eqb-false}
 use Rattle.std.proofs.Math.Dec.{eqb}
 use Rattle.std.proofs.Math.ListN.{length, replicate}
@@ -17,7 +18,7 @@ use Rattle.papers.specs.Papers.{SLOTS}
 use Rattle.layout.specs.Record.{all_parts, all_numbers}
 use Rattle.shapes.specs.Shapes.{item_at}
 use Rattle.spots.specs.Spots.{spot_at, item_on, spot_ok, row_ok, items_from}
-use Rattle.spots.specs.Laws.Rows.{first_drop, next_drop, items_on, row_next}
+use Rattle.spots.specs.Laws.Rows.{first_drop, next_drop, items_on, row_first, row_next}
 use Rattle.sheet.specs.Items.{named_at}
 use Rattle.sheet.specs.Rows.{named_on, names_from}
 use Rattle.sheet.specs.Laws.Rows.{names_on}
@@ -93,3 +94,37 @@ module _ (ds : List ℕ) (k i left : ℕ) (some : left ≡ 0 → ⊥) (ok : T (r
         step (ap (λ b. pick b (item_left (item_on k) (named_on k) t) t) (sym e))
         (eqs ∙ ap (λ b. set ps i (pick b (item_in (item_on k) (named_on k) t) (0, replicate (slots (item_on k)) (pos 0))).0) (sym e))
         (g.1 ∙ ap₂ (λ n y. sets l n y) eb (item_blank j refl ∙ ap (λ n. replicate (slots (item_at n)) (pos 0)) ej ∙ ap (λ b. (pick b (item_in (item_on k) (named_on k) t) (0, replicate (slots (item_on k)) (pos 0))).1) (sym e))) r
+
+-- ---- the loop of `row`, n items being passed
+
+module _ (ds : List ℕ) (k i left n : ℕ) (h : n < left) where
+  ahead : left - n ≡ 0 → ⊥
+  ahead e = omega arith
+
+  abbrev pub counts_left : List ℕ → ℕ → List ℕ → List ℕ
+  counts_left ps m t = sets ps (i + m) (all_parts (Row ds (k + m) (i + m) (left - m) t))
+
+  abbrev pub kept_left : List ℤ → ℕ → List ℕ → List ℤ
+  kept_left l m t = sets l (spot_at (k + m)).1 (all_numbers (Row ds (k + m) (i + m) (left - m) t))
+
+  pub row_asks : T (row_ok (k + n) (left - n)) → T (spot_ok (k + n)) × T (row_ok (k + (n + 1)) (left - (n + 1)))
+  row_asks ok =
+      let ek : k + (n + 1) ≡ k + n + 1 = omega arith in
+      let el : left - (n + 1) ≡ left - n - 1 = omega arith in
+      rw (ek, el) (row_first (k + n) (left - n) ahead ok)
+
+  module _ (ok : T (row_ok (k + n) (left - n))) (t ps : List ℕ) (l : List ℤ) {x : Bool} (ex : x ≡ eqb (get_or ds (i + n) 0) 1) {j base : ℕ} (ej : j ≡ (spot_at (k + n)).0) (eb : base ≡ (spot_at (k + n)).1) where
+    pub there_next : x ≡ true → {u qs : List ℕ} {p : ℕ} {q : List ℤ} → p ≡ (item_in (item_at j) (named_at j) t).0 → qs ≡ set ps (i + n) p → ItemTaken j base t l u q
+        → (counts_left qs (n + 1) u ≡ counts_left ps n t) × (kept_left q (n + 1) u ≡ kept_left l n t)
+    there_next e ep eqs g =
+        let ei : i + (n + 1) ≡ i + n + 1 = omega arith in
+        let ek : k + (n + 1) ≡ k + n + 1 = omega arith in
+        let el : left - (n + 1) ≡ left - n - 1 = omega arith in
+        rw (ei, ek, el) (row_there ds (k + n) (i + n) (left - n) ahead ok t ps l ex ej eb e ep eqs g (refl, refl))
+
+    pub absent_next : x ≡ false → {u qs : List ℕ} {q : List ℤ} → qs ≡ set ps (i + n) 0 → ItemTaken j base [] l u q → (counts_left qs (n + 1) t ≡ counts_left ps n t) × (kept_left q (n + 1) t ≡ kept_left l n t)
+    absent_next e eqs g =
+        let ei : i + (n + 1) ≡ i + n + 1 = omega arith in
+        let ek : k + (n + 1) ≡ k + n + 1 = omega arith in
+        let el : left - (n + 1) ≡ left - n - 1 = omega arith in
+        rw (ei, ek, el) (row_absent ds (k + n) (i + n) (left - n) ahead ok t ps l ex ej eb e eqs g (refl, refl))

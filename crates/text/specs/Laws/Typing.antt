@@ -1,10 +1,9 @@
 -- Words of the sheet put into its buffer by place: what the code of each word promises, and how one goes behind another.
 use Rattle.std.specs.Prelude.{◌≡◌, refl, Bool, true, false, List, [], ◌∷◌, ◌++◌, ℕ, zero, suc, ◌+◌, ◌-◌, ◌/◌, ◌%◌, ◌≤◌, ◌<◌, ltb, ℤ, pos, negsuc, nat_abs, length, set, take, drop, get_or}
-use Rattle.std.proofs.Common.{sym, ap, ap₂, ◌∙◌, subst, append_assoc, mod-eq_of_lt, add-one, arith, lt-ltb, le-ltb, ltb-true, length-set, take-suc, take_all}
+use Rattle.std.proofs.Common.{sym, ap, ap₂, ◌∙◌, subst, append_assoc, mod-eq_of_lt, add-one, arith, lt-ltb, le-ltb, ltb-true, take-suc}
 use Rattle.std.proofs.lemmas.List.Edits.{sets, sets-eq}
 use Rattle.std.proofs.Math.Seq.{take-append_seam}
-use Rattle.std.specs.Int.Signed.{mag, lt_z}
-use Rattle.codec.specs.Pick.{pick}
+use Rattle.std.specs.Int.Signed.{lt_z}
 use Rattle.codec.proofs.Laws.Sets.{Put}
 use Rattle.scope.specs.Sheet.{digits_of, decimal, signed_decimal, key_line}
 use Rattle.text.specs.Typing.{typed_at, place_after, Types}
@@ -62,29 +61,6 @@ typed_front xs h {l} {m} {next} k a =
     let e : next ≡ length xs = a.place ∙ p.place ∙ omega arith in
     (e, ap (λ j. take j m) e ∙ ap (take (length xs)) (a.octets ∙ p.octets ∙ sets-eq xs l 0 (omega arith)) ∙ take-append_seam xs (drop (0 + length xs) l))
 
--- ---- what was typed lies in the buffer, whether it had room or not
-
-typed-length : (xs l : List ℕ) (at : ℕ) → length (typed_at l at xs) ≡ length l
-unfolding typed_at
-typed-length [] l at = refl
-typed-length (x ∷ xs) l at = by_room (ltb at 4_096) (typed-length xs (set l at x) (at + 1) ∙ length-set l at x)
-  where
-    by_room : (b : Bool) → length (typed_at (set l at x) (at + 1) xs) ≡ length l → length (pick b (typed_at (set l at x) (at + 1) xs) l) ≡ length l
-    by_room true h = h
-    by_room false h = refl
-
-place_within : (xs : List ℕ) (at : ℕ) → at ≤ 4_096 → place_after at xs ≤ 4_096
-unfolding place_after
-place_within [] at h = h
-place_within (x ∷ xs) at h = by_room (ltb at 4_096) refl (λ k. place_within xs (at + 1) k)
-  where
-    by_room : (b : Bool) → ltb at 4_096 ≡ b → (at + 1 ≤ 4_096 → place_after (at + 1) xs ≤ 4_096) → pick b (place_after (at + 1) xs) at ≤ 4_096
-    by_room true e f = f (omega (arith, ltb-true at 4_096 e))
-    by_room false e f = h
-
-pub types_within : {xs l : List ℕ} {at : ℕ} {m : List ℕ} {next : ℕ} → Types xs l at m next → length l ≡ 4_096 → at ≤ 4_096 → next ≤ length m
-types_within {xs} {l} {at} {m} {next} a k h = omega (arith, ap length a.octets ∙ typed-length xs l at, a.place, place_within xs at h)
-
 -- ---- the ways out of `octet`
 
 pub octet_there : (o : ℕ) (l : List ℕ) (at : ℕ) → at < 4_096 → Types (o ∷ []) l at (set l at o) (at + 1)
@@ -101,9 +77,6 @@ pub word_more : (s : List ℕ) (i : ℕ) → i < length s → {l m q : List ℕ}
 word_more s i h {l} {m} {q} {at} {next} {last} a b =
     let e : i + 1 ≡ suc i = omega arith in
     subst (λ x. Types x l at q last) (sym (ap (λ j. take j s) e ∙ take-suc s i 0 h)) (types_behind a b)
-
-pub word_whole : (s : List ℕ) (i : ℕ) → length s ≤ i → {l m : List ℕ} {at next : ℕ} → Types (take i s) l at m next → Types s l at m next
-word_whole s i h {l} {m} {at} {next} a = subst (λ x. Types x l at m next) (take_all i s h) a
 
 -- ---- the ways out of `digits`
 
@@ -138,12 +111,10 @@ types_decimal n a = a
 -- ---- the ways out of `signed`
 
 pub signed_below : (z : ℤ) → lt_z z (pos 0) ≡ true → {l m q : List ℕ} {at next last : ℕ}
-    → Types (45 ∷ []) l at m next → Types (decimal (mag z + 1)) m next q last → Types (signed_decimal z) l at q last
+    → Types (45 ∷ []) l at m next → Types (decimal (nat_abs z)) m next q last → Types (signed_decimal z) l at q last
 unfolding signed_decimal
 signed_below (pos n) t a b = absurd (omega (arith, ltb-true n 0 t))
-signed_below (negsuc n) t {m = m} {q = q} {next = next} {last = last} a b =
-    let e : n + 1 ≡ suc n = omega arith in
-    types_behind a (subst (λ k. Types (decimal k) m next q last) e b)
+signed_below (negsuc n) t a b = types_behind a b
 
 pub signed_above : (z : ℤ) → lt_z z (pos 0) ≡ false → {l m : List ℕ} {at next : ℕ} → Types (decimal (nat_abs z)) l at m next → Types (signed_decimal z) l at m next
 unfolding signed_decimal

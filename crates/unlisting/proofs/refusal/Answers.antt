@@ -1,9 +1,7 @@
--- `unlisting::refusal` meets its contract: one law at each way out. Assumes nothing.
-use Rattle.unlisting.specs.Laws.Unlists.{no_lines, two_lines}
+-- `unlisting::refusal` meets its contract. Assumes nothing.
+use Rattle.layout.specs.Answer.{reason_number}
+use Rattle.unlisting.specs.Laws.Unlists.{two_lines}
 use Rattle.unlisting.proofs.refusal.Goals as goal
 
-pub returns-in-Accepted : goal.returns-in-Accepted
-returns-in-Accepted c = no_lines c.in-Accepted.is c.args.lines.now
-
-pub returns-in-Refused : goal.returns-in-Refused
-returns-in-Refused c = two_lines c.in-Refused.is c.pair-next.ensures c.pair.ensures
+pub returns : goal.returns
+returns c = let r = c.args.refused in two_lines (reason_number r.reason) r.place (rw c.from.ensures at c.pair.ensures) c.pair-2.ensures

@@ -1,20 +1,16 @@
 -- `views::view_answer` meets its contract: one law at each way out. Assumes nothing.
-use mathlib.Core.Path.{ap, ◌∙◌}
-use Rattle.views.specs.Standing.{as_view}
+use mathlib.Core.Path.{refl, ◌∙◌}
+use Rattle.std.proofs.lemmas.Result.{err_from_is_err_and}
 use Rattle.views.specs.Laws.Surveyed.{view_refused, view_rising, view_stands}
 use Rattle.views.proofs.view_answer.Goals as goal
 
-pub returns-in_default : goal.returns-in_default
-returns-in_default c =
-    let a = c.args in
-    c.as_view.ensures ∙ ap as_view c.in_default.is ∙ view_refused a.cat a.field.now c.survey-v.ensures a.item c.in_default.is
+pub returns-in_err-found : goal.returns-in_err-found
+returns-in_err-found c =
+    let p = err_from_is_err_and c.from_residual.result c.from_residual.ensures.1 in
+    rw (p.1, p.2) (view_refused c.args.cat c.args.field.now c.in_err-found.ensures c.args.item refl)
 
 pub standing-requires : goal.standing-requires
-standing-requires c =
-    let a = c.args in
-    view_rising a.cat a.field.now c.survey-v.ensures c.in-Accepted.is
+standing-requires c = view_rising c.args.cat c.args.field.now c.in_ok-found.ensures refl
 
 pub returns : goal.returns
-returns c =
-    let a = c.args in
-    c.standing.ensures ∙ view_stands a.cat a.field.now c.survey-v.ensures a.item c.in-Accepted.is
+returns c = c.standing.ensures ∙ view_stands c.args.cat c.args.field.now c.in_ok-found.ensures c.args.item refl

@@ -10,16 +10,12 @@ use Rattle.codec.specs.Item.{Item}
 use Rattle.codec.specs.Field.{Contents, body}
 use Rattle.codec.specs.Frame.{Outcome, accepted, refused, read_frame}
 use Rattle.papers.specs.Papers.{known, paper_of}
-use Rattle.layout.specs.declared.Answer.TheVariants.{Accepted, Refused}
-use Rattle.layout.specs.declared.View.{View}
-use Rattle.layout.specs.declared.View.TheVariants.{Shown, Hidden}
+use Rattle.layout.specs.Answer.{Accepted, Refused, View, Shown, Hidden, Choice, Surveyed}
 use Rattle.layout.specs.declared.Which.{Which}
 use Rattle.layout.specs.declared.Which.TheVariants.{Neither, Base, Correction}
-use Rattle.layout.specs.declared.Choice.{Choice}
 use Rattle.scope.specs.Reading.{field_of}
 use Rattle.scope.specs.Views.{is_item, present, standing, view_in, view_of, part_of, choose_in, choose_of, side_of, chosen_of}
 use Rattle.layout.specs.Laws.Answer.{Accepted≢Refused, Refused≢Accepted}
-use Rattle.layout.specs.declared.Surveyed.{Surveyed}
 use Rattle.scope.specs.Survey.{surveyed, survey_of}
 use Rattle.views.specs.Laws.Surveyed.{view_within}
 use Rattle.views.specs.Choosing.{chosen_view}

@@ -5,7 +5,7 @@ use Rattle.std.proofs.Math.Path.{sym, ap}
 use Rattle.std.proofs.Common.{◌∙◌}
 use Rattle.layout.specs.declared.Which.{Which}
 use Rattle.layout.specs.declared.Which.TheVariants.{Neither, Base, Correction}
-use Rattle.layout.specs.declared.Choice.{Choice}
+use Rattle.layout.specs.Answer.{Choice}
 use Rattle.views.specs.Parts.{part_at, side_at, chosen_at}
 
 -- ---- the ways out of `choose`

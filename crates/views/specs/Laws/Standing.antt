@@ -9,7 +9,7 @@ use Rattle.std.proofs.Math.Dec.{T}
 use Rattle.std.proofs.Math.ListN.{get_or}
 use Rattle.codec.specs.Pick.{pick}
 use Rattle.codec.specs.Field.{flags}
-use Rattle.layout.specs.declared.View.TheVariants.{Shown, Hidden}
+use Rattle.layout.specs.Answer.{Shown, Hidden}
 use Rattle.codec.proofs.Laws.Tests.{and_l, and_r}
 use Rattle.papers.specs.Papers.{paper_of, items_of, numbered}
 use Rattle.papers.proofs.Laws.Papers.{few_items}

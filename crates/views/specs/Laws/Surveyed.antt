@@ -13,15 +13,12 @@ use Rattle.codec.specs.Frame.{Outcome, accepted, refused}
 use Rattle.codec.specs.Meaning.{len_of}
 use Rattle.codec.proofs.Laws.Tests.{and_l, and_r}
 use Rattle.papers.specs.Papers.{paper_of, items_of}
-use Rattle.layout.specs.declared.Answer.TheVariants.{Accepted, Refused}
-use Rattle.layout.specs.declared.View.{View}
-use Rattle.layout.specs.declared.View.TheVariants.{Shown, Hidden}
+use Rattle.layout.specs.Answer.{Accepted, Refused, View, Shown, Hidden, Surveyed}
 use Rattle.scope.specs.Reading.{field_of}
 use Rattle.scope.specs.Views.{is_item, present, standing, view_in, view_of}
 use Rattle.layout.specs.Laws.Answer.{Accepted≢Refused, Refused≢Accepted}
 use Rattle.scope.proofs.Laws.Reading.{read_front}
 use Rattle.scope.proofs.Laws.Views.{seen, view_inside, front_length}
-use Rattle.layout.specs.declared.Surveyed.{Surveyed}
 use Rattle.scope.specs.Survey.{starts_from, surveyed, survey_of}
 use Rattle.reader.specs.Laws.Surveys.{begins, ends}
 use Rattle.views.specs.Standing.{Rising, stands_at}

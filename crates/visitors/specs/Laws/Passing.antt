@@ -1,7 +1,7 @@
 -- The array between two items.
 use Rattle.std.specs.Prelude.{◌≡◌, Bool, true, List, [], ◌∷◌, ◌++◌, T, take, drop, replicate}
 use Rattle.std.proofs.Math.Path.{refl, sym, ap, subst}
-use Rattle.std.proofs.Common.{◌∙◌, length-take-le}
+use Rattle.std.proofs.Common.{◌∙◌, ap₂, length-take-le}
 use Rattle.std.proofs.Math.Bool.{false}
 use Prim.Native.Nat.{ℕ, suc, ◌-◌, ◌≤◌, ◌<◌}
 use native.Mathlib.Omega.{arith}
@@ -23,9 +23,7 @@ use Rattle.codec.proofs.Laws.Longest.{field_size}
 use Rattle.codec.proofs.Laws.Change.{set-spliced, blank_okay, blank-text, remove_absent}
 use Rattle.papers.specs.Papers.{known, paper_of, items_of}
 use Rattle.papers.proofs.Laws.Papers.{few_items, few_octets}
-use Rattle.layout.specs.declared.Answer.{Answer}
-use Rattle.layout.specs.declared.Answer.TheVariants.{Accepted, Refused}
-use Rattle.layout.specs.declared.Surveyed.{Surveyed}
+use Rattle.layout.specs.Answer.{Answer, Accepted, Refused, Surveyed}
 use Rattle.scope.specs.Reading.{field_of}
 use Rattle.scope.specs.Survey.{survey_of}
 use Rattle.scope.specs.Outputs.{with_room, after, Leaves}
@@ -108,6 +106,9 @@ module _ (cat : ℕ) (s : List ℕ) (os : Octets s) {v : Surveyed} (ev : v ≡ s
   first_held {xs} e =
       subst (InFront cat begun.what) (sym (e ∙ ap (◌++ drop (length (take n s)) (replicate 255 0)) (take-length (take n s)) ∙ ap (λ x. x ++ drop (length x) (replicate 255 0)) whole))
       (in_front cat begun.known_is begun.what (read_okay os begun) (replicate 255 0) tt refl)
+
+  pub first_copied : {xs : List ℕ} → xs ≡ take n s → InFront cat begun.what (xs ++ drop n (replicate 255 0))
+  first_copied e = first_held (ap₂ (λ x m. x ++ drop m (replicate 255 0)) (e ∙ sym (take-length (take n s))) whole_long)
 
 -- ---- the next item
 

@@ -1,27 +1,13 @@
--- `walk::bounded` meets its contract. Assumes nothing.
-use mathlib.Core.Path.{ap, ◌∙◌}
-use borrow.Author.Rules.{rules}
-use Rattle.words.specs.Numbers.{number_in}
-use Rattle.walk.specs.Laws.Lines.{bounded_there, bounded_low, bounded_high}
+use Rattle.std.proofs.Common.{◌∙◌, ap, leb, unwrap_or, option_and_then, rules, tests}
+use Rattle.std.specs.Bool.{then_some}
+use Rattle.words.specs.Numbers.{at_most, number_in}
+use Rattle.walk.specs.Laws.Lines.{filtered, bounded_told}
 use Rattle.walk.proofs.bounded.Goals as goal
-
-pub value-requires : goal.value-requires
-value-requires c = search rules
-
-pub number-n-requires : goal.number-n-requires
-number-n-requires c = search rules
-
-pub returns-then-n-lo : goal.returns-then-n-lo
-returns-then-n-lo c =
-    let a = c.args in
-    bounded_low a.lo a.hi a.t.now (c.number-n.ensures ∙ ap (number_in a.hi) c.value.ensures) c.if-n-lo.true
-
-pub returns-then-n-hi : goal.returns-then-n-hi
-returns-then-n-hi c =
-    let a = c.args in
-    bounded_high a.lo a.hi a.t.now (c.number-n.ensures ∙ ap (number_in a.hi) c.value.ensures) c.if-n-hi.true
 
 pub returns : goal.returns
 returns c =
-    let a = c.args in
-    bounded_there a.lo a.hi a.t.now (c.number-n.ensures ∙ ap (number_in a.hi) c.value.ensures) c.if-n-lo.false c.if-n-hi.false
+    let lo = c.args.lo in
+    let hi = c.args.hi in
+    let left = filtered (leb lo) c.number.result c.filter.result c.filter.ensures (λ n b q. search (rules, tests)) in
+    let number = c.number.ensures ∙ ap (λ v. at_most hi (number_in hi v)) c.value.ensures in
+    c.from.ensures ∙ c.unwrap_or.ensures ∙ ap (λ o. unwrap_or o lo) (left ∙ ap (option_and_then (λ n. then_some (leb lo n) n)) number) ∙ bounded_told lo hi c.args.t.now

@@ -1,29 +1,13 @@
--- `walk::find` meets its contract: from each place that the loop reaches the octet is found at the same place. Assumes nothing.
-use mathlib.Core.Path.{◌∙◌}
-use native.Mathlib.Omega.{arith}
-use Rattle.walk.specs.Laws.Lines.{at_octet, at_other, at_end}
+-- The place of the first octet x, or the length.
+use Rattle.std.proofs.Common.{nat_eq, length, unwrap_or, ap, ◌∙◌, rules, tests}
+use Rattle.std.proofs.lemmas.Iterator.Search.{position_from_yields_List}
+use Rattle.std.proofs.lemmas.Iterator.{YieldsList-from_slice}
+use Rattle.walk.specs.Laws.Lines.{place_is}
 use Rattle.walk.proofs.find.Goals as goal
-
-pub loop-i-init : goal.loop-i-init
-loop-i-init c = omega arith
-
-pub bounds-s-i : goal.bounds-s-i
-bounds-s-i c = omega arith
-
-pub returns-then-s-i : goal.returns-then-s-i
-returns-then-s-i c =
-    omega (arith, at_octet c.args.x c.args.s.now c.loop-i.i (omega arith) c.if-s-i.true)
-
-pub overflow_add-i : goal.overflow_add-i
-overflow_add-i c = omega arith
-
-pub loop-i-smaller : goal.loop-i-smaller
-loop-i-smaller c = omega arith
-
-pub loop-i-preserved : goal.loop-i-preserved
-loop-i-preserved c =
-    c.loop-i.invariant ∙ at_other c.args.x c.args.s.now c.loop-i.i (omega arith) c.if-s-i.false
 
 pub returns : goal.returns
 returns c =
-    omega (arith, at_end c.args.x c.args.s.now c.loop-i.i (omega arith))
+    let x = c.args.x in
+    let s = c.args.s.now in
+    let place = position_from_yields_List (λ o. nat_eq o x) _ _ c.position.result c.position.ensures.ran (YieldsList-from_slice _ c.iter.ensures.rest) (λ o b q k. search (rules, tests)) in
+    c.unwrap_or.ensures ∙ ap (λ p. unwrap_or p (length s)) place ∙ place_is x s

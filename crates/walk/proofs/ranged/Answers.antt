@@ -1,37 +1,16 @@
--- `walk::ranged` meets its contract: one law at each way out. Assumes nothing.
-use mathlib.Core.Path.{◌≡◌, ap, ◌∙◌}
-use borrow.Author.Rules.{rules, sfits_of}
-use mir.Syntax.{w32}
-use mir.Facts.{to_z-of_z}
-use Rattle.words.specs.Numbers.{whole_in}
-use Rattle.guess.specs.Guess.{value_in}
-use Rattle.walk.specs.Laws.Ranges.{ranged_there, ranged_high, ranged_low}
+use Rattle.std.proofs.Common.{◌∙◌, ap, pos, unwrap_or, option_and_then, rules, tests}
+use Rattle.std.specs.Bool.{then_some}
+use Rattle.words.specs.Numbers.{within_32, signed_in}
+use Rattle.walk.specs.Ranges.{between}
+use Rattle.walk.specs.Laws.Lines.{filtered}
+use Rattle.walk.specs.Laws.Ranges.{ranged_told}
 use Rattle.walk.proofs.ranged.Goals as goal
 
-pub value-requires : goal.value-requires
-value-requires c = search rules
-
-pub whole-n-requires : goal.whole-n-requires
-whole-n-requires c = search rules
-
-pub returns-then-n-hi : goal.returns-then-n-hi
-returns-then-n-hi c =
-    let told : c.whole-n.result ≡ whole_in (value_in c.args.t.now) =
-    c.whole-n.ensures ∙ ap whole_in c.value.ensures in
-    let fn = sfits_of {w = w32} {z = c.whole-n.result} c.whole-n.type_inv in
-    rw (to_z-of_z fn)
-    (ranged_there c.args.lo c.args.hi c.args.t.now told (rw (to_z-of_z c.ranges.lo, to_z-of_z fn) at c.if-lo-n.true) (rw (to_z-of_z fn, to_z-of_z c.ranges.hi) at c.if-n-hi.true))
-
-pub returns-else-n-hi : goal.returns-else-n-hi
-returns-else-n-hi c =
-    let told : c.whole-n.result ≡ whole_in (value_in c.args.t.now) =
-    c.whole-n.ensures ∙ ap whole_in c.value.ensures in
-    let fn = sfits_of {w = w32} {z = c.whole-n.result} c.whole-n.type_inv in
-    ranged_high c.args.lo c.args.hi c.args.t.now told (rw (to_z-of_z c.ranges.lo, to_z-of_z fn) at c.if-lo-n.true) (rw (to_z-of_z fn, to_z-of_z c.ranges.hi) at c.if-n-hi.false)
-
-pub returns-else-lo-n : goal.returns-else-lo-n
-returns-else-lo-n c =
-    let told : c.whole-n.result ≡ whole_in (value_in c.args.t.now) =
-    c.whole-n.ensures ∙ ap whole_in c.value.ensures in
-    let fn = sfits_of {w = w32} {z = c.whole-n.result} c.whole-n.type_inv in
-    ranged_low c.args.lo c.args.hi c.args.t.now told (rw (to_z-of_z c.ranges.lo, to_z-of_z fn) at c.if-lo-n.false)
+pub returns : goal.returns
+unfolding between
+returns c =
+    let lo = c.args.lo in
+    let hi = c.args.hi in
+    let left = filtered (between lo hi) c.signed.result c.filter.result c.filter.ensures (λ n b q. search (rules, tests)) in
+    let number = c.signed.ensures ∙ ap (λ v. within_32 (signed_in v)) c.value.ensures in
+    search rules ∙ c.unwrap_or.ensures ∙ ap (λ o. unwrap_or o (pos 0)) (left ∙ ap (option_and_then (λ z. then_some (between lo hi z) z)) number) ∙ ranged_told lo hi c.args.t.now

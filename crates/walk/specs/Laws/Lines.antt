@@ -1,32 +1,30 @@
 -- Lines, words and values by place: one law for each way through the code.
-use Rattle.std.specs.Prelude.{◌≡◌, Bool, ◌&&◌, ℕ, zero, suc, ◌+◌, ◌-◌, ◌≤◌, ◌<◌, eqb, leb, length, get_or}
+use Rattle.std.specs.Prelude.{◌≡◌, Bool, ◌&&◌, cond, Option, Some, None, MatchOption, unwrap_or, option_and_then, position, ℕ, zero, suc, ◌+◌, ◌-◌, ◌≤◌, ◌<◌, eqb, leb, length, get_or}
 use Rattle.std.proofs.Math.Path.{refl, ap}
-use Rattle.std.proofs.Common.{sym, ap₂, ◌∙◌, arith, length-drop, drop_of_length-le, drop-cons, take_all}
+use Rattle.std.proofs.Common.{sym, ◌∙◌, arith}
 use Rattle.std.proofs.Math.Bool.{true, false}
 use mathlib.Core.List.{List, [], ◌∷◌}
-use Rattle.std.proofs.Math.Numerals.{add-one}
-use borrow.Author.Tests.{eq-eqb, ne_eqb, le-leb, lt-leb}
 use Rattle.std.proofs.Math.ListN.{take, drop}
 use Rattle.codec.specs.Pick.{pick}
-use Rattle.words.specs.Numbers.{number_in}
+use Rattle.std.specs.Bool.{then_some}
+use Rattle.words.specs.Numbers.{number_in, at_most}
+use Rattle.words.specs.Laws.Lines.{position_is}
 use Rattle.walk.specs.Lines.{place_in, first_longer, words_in}
 use Rattle.guess.specs.Lines.{before_octet, behind_octet, behind_feed, behind_feeds}
 use Rattle.guess.specs.Guess.{value_in, bounded_in}
 
 -- ---- the place of an octet
 
-module _ (x : ℕ) (s : List ℕ) (i : ℕ) (h : i < length s) where
-  pub at_octet : get_or s i 0 ≡ x → place_in x (drop i s) ≡ 0
-  unfolding place_in
-  at_octet e = rw (drop-cons s i 0 h, eq-eqb (get_or s i 0) x e) refl
-
-  pub at_other : (get_or s i 0 ≡ x → ⊥) → i + place_in x (drop i s) ≡ i + 1 + place_in x (drop (i + 1) s)
-  unfolding place_in
-  at_other e = rw (drop-cons s i 0 h, ne_eqb (get_or s i 0) x e, add-one i) (omega arith)
-
-pub at_end : (x : ℕ) (s : List ℕ) (i : ℕ) → length s ≤ i → place_in x (drop i s) ≡ 0
+pub place_is : (x : ℕ) (s : List ℕ) → unwrap_or (position (λ o. eqb o x) s) (length s) ≡ place_in x s
 unfolding place_in
-at_end x s i h = rw (drop_of_length-le s h) refl
+place_is x s = position_is (place_in x) (λ o. eqb o x) refl more s
+  where
+    more : (o : ℕ) (os : List ℕ) → pick (eqb o x) 0 (suc (place_in x os)) ≡ cond (eqb o x) 0 (1 + place_in x os)
+    more o os = by_test (eqb o x)
+      where
+        by_test : (b : Bool) → pick b 0 (suc (place_in x os)) ≡ cond b 0 (1 + place_in x os)
+        by_test true = refl
+        by_test false = omega arith
 
 pub place_within : (x : ℕ) (s : List ℕ) → place_in x s ≤ length s
 unfolding place_in
@@ -56,13 +54,6 @@ module _ (x : ℕ) where
       go true e = refl
       go false e = e
 
--- what stands behind n octets
-pub past_there : (s : List ℕ) (n : ℕ) → take (length s - n) (drop n s) ≡ drop n s
-past_there s n = take_all (length s - n) (drop n s) (omega (arith, length-drop n s))
-
-pub past_end : (s : List ℕ) (n : ℕ) → length s ≤ n → take (length s - length s) (drop (length s) s) ≡ drop n s
-past_end s n h = past_there s (length s) ∙ drop_of_length-le s {i = length s} (omega arith) ∙ sym (drop_of_length-le s h)
-
 -- ---- words
 
 words_split : (t : List ℕ) → words_in t ≡ before_octet 32 t ∷ drop 1 (words_in t)
@@ -90,45 +81,41 @@ words_behind (o ∷ t) k = go (eqb o 32) (words_behind t k)
     go true e = refl
     go false e = ap (λ ws. get_or ws k []) (longer (words_in t)) ∙ e
 
-pub word_first : (t : List ℕ) (k : ℕ) → k ≡ 0 → {w : List ℕ} → w ≡ before_octet 32 t → w ≡ get_or (words_in t) k []
-word_first t k e ew = ew ∙ ap (λ ws. get_or ws 0 []) (sym (words_split t)) ∙ ap (λ j. get_or (words_in t) j []) (sym e)
+-- word n - k of what follows k words
+pub word_first : (t : List ℕ) (n k : ℕ) → n ≤ k → {w : List ℕ} → w ≡ before_octet 32 t → w ≡ get_or (words_in t) (n - k) []
+word_first t n k h ew = let e : n - k ≡ 0 = omega arith in ew ∙ ap (λ ws. get_or ws 0 []) (sym (words_split t)) ∙ ap (λ j. get_or (words_in t) j []) (sym e)
 
-pub word_more : (t : List ℕ) (k : ℕ) → (k ≡ 0 → ⊥) → {u w : List ℕ} → u ≡ behind_octet 32 t → w ≡ get_or (words_in u) (k - 1) [] → w ≡ get_or (words_in t) k []
-word_more t zero h eu ew = absurd (h refl)
-word_more t (suc k) h eu ew =
-    let e : suc k - 1 ≡ k = omega arith in
-    ew ∙ ap₂ (λ x j. get_or (words_in x) j []) eu e ∙ sym (words_behind t k) ∙ ap (λ ws. get_or ws (suc k) []) (sym (words_split t))
+pub word_more : (t : List ℕ) (n k : ℕ) → k < n → {u : List ℕ} → u ≡ behind_octet 32 t → get_or (words_in t) (n - k) [] ≡ get_or (words_in u) (n - (k + 1)) []
+word_more t n k h {u} eu =
+    let e : n - k ≡ suc (n - (k + 1)) = omega arith in
+    ap (λ j. get_or (words_in t) j []) e ∙ ap (λ ws. get_or ws (suc (n - (k + 1))) []) (words_split t) ∙ words_behind t (n - (k + 1)) ∙ ap (λ x. get_or (words_in x) (n - (k + 1)) []) (sym eu)
 
--- what follows so many lines
-pub skip_none : (n : ℕ) (t : List ℕ) → n ≡ 0 → t ≡ behind_feeds n t
+-- what follows n - k lines more
+pub skip_none : (n k : ℕ) (t : List ℕ) → n ≤ k → t ≡ behind_feeds (n - k) t
 unfolding behind_feeds
-skip_none n t e = rw e refl
+skip_none n k t h = let e : n - k ≡ 0 = omega arith in rw e refl
 
-pub skip_more : (n : ℕ) (t : List ℕ) → (n ≡ 0 → ⊥) → {u r : List ℕ} → u ≡ behind_feed t → r ≡ behind_feeds (n - 1) u → r ≡ behind_feeds n t
+pub skip_more : (n k : ℕ) (t : List ℕ) → k < n → {u : List ℕ} → u ≡ behind_feed t → behind_feeds (n - k) t ≡ behind_feeds (n - (k + 1)) u
 unfolding behind_feeds
-skip_more zero t h eu er = absurd (h refl)
-skip_more (suc n) t h eu er = let e : suc n - 1 ≡ n = omega arith in er ∙ ap₂ behind_feeds e eu
+skip_more n k t h eu = let e : n - k ≡ suc (n - (k + 1)) = omega arith in rw e (ap (behind_feeds (n - (k + 1))) (sym eu))
 
 -- ---- a number within bounds
 
-pub bounded_there : (lo hi : ℕ) (t : List ℕ) {n : ℕ} → n ≡ number_in hi (value_in t) → lo ≤ n → n ≤ hi → n ≡ bounded_in lo hi t
-unfolding bounded_in
-bounded_there lo hi t {n} e a b = go (number_in hi (value_in t)) e
-  where
-    go : (m : ℕ) → n ≡ m → n ≡ pick (leb lo m && leb m hi) m lo
-    go m e = rw (le-leb lo m (omega arith), le-leb m hi (omega arith)) e
+-- what a test leaves of an answer
+pub filtered : {A : Type 0} {Q : A → Bool → Type 0} (p : A → Bool) (o r : Option A) → MatchOption o (r ≡ None) (λ x. (b : Bool) × Q x b × (r ≡ then_some b x)) → ((x : A) (b : Bool) → Q x b → b ≡ p x)
+    → r ≡ option_and_then (λ x. then_some (p x) x) o
+filtered p None r h f = h
+filtered p (Some x) r (b, q, e) f = e ∙ ap (λ t. then_some t x) (f x b q)
 
-pub bounded_low : (lo hi : ℕ) (t : List ℕ) {n : ℕ} → n ≡ number_in hi (value_in t) → n < lo → lo ≡ bounded_in lo hi t
+pub bounded_told : (lo hi : ℕ) (t : List ℕ) → unwrap_or (option_and_then (λ n. then_some (leb lo n) n) (at_most hi (number_in hi (value_in t)))) lo ≡ bounded_in lo hi t
 unfolding bounded_in
-bounded_low lo hi t {n} e a = go (number_in hi (value_in t)) e
+bounded_told lo hi t = go (number_in hi (value_in t))
   where
-    go : (m : ℕ) → n ≡ m → lo ≡ pick (leb lo m && leb m hi) m lo
-    go m e = rw (lt-leb lo m (omega arith)) refl
+    by_tests : (n : ℕ) (a b : Bool) → leb lo n ≡ a → unwrap_or (option_and_then (λ m. then_some (leb lo m) m) (then_some b n)) lo ≡ pick (a && b) n lo
+    by_tests n true true e = rw e refl
+    by_tests n false true e = rw e refl
+    by_tests n true false e = refl
+    by_tests n false false e = refl
 
-pub bounded_high : (lo hi : ℕ) (t : List ℕ) {n : ℕ} → n ≡ number_in hi (value_in t) → hi < n → lo ≡ bounded_in lo hi t
-unfolding bounded_in
-bounded_high lo hi t {n} e a = go (number_in hi (value_in t)) e (leb lo (number_in hi (value_in t)))
-  where
-    go : (m : ℕ) → n ≡ m → (b : Bool) → lo ≡ pick (b && leb m hi) m lo
-    go m e true = rw (lt-leb m hi (omega arith)) refl
-    go m e false = refl
+    go : (n : ℕ) → unwrap_or (option_and_then (λ m. then_some (leb lo m) m) (at_most hi n)) lo ≡ pick (leb lo n && leb n hi) n lo
+    go n = by_tests n (leb lo n) (leb n hi) refl

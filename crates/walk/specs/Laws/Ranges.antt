@@ -1,7 +1,7 @@
 -- The numbers of a piece are those of a range; one law for each way through the code that asks for it.
-use Rattle.std.specs.Prelude.{◌≡◌, refl, Bool, List, ℕ, zero, suc, ◌+◌, ◌-◌, ◌*◌, ◌^◌, ◌/◌, ◌≤◌, T, ltb, leb, ℤ, pos, negsuc}
+use Rattle.std.specs.Prelude.{◌≡◌, refl, Bool, Option, Some, None, unwrap_or, option_and_then, List, ℕ, zero, suc, ◌+◌, ◌-◌, ◌*◌, ◌^◌, ◌/◌, ◌≤◌, T, ltb, leb, ℤ, pos, negsuc}
 use Rattle.std.proofs.Common.{sym, ◌∙◌, subst, zero-le, pow-suc, arith, ltb→lt, lt→ltb, leb→le, le→leb, pow_pos}
-use Rattle.std.proofs.Math.Path.{ap, ap₂}
+use Rattle.std.proofs.Math.Path.{ap}
 use Rattle.std.proofs.Math.Bool.{true, false}
 use Rattle.std.specs.Int.Signed.{le_z}
 use Rattle.codec.specs.Pick.{pick}
@@ -9,7 +9,9 @@ use Rattle.codec.specs.Signed.{in_signed}
 use Rattle.codec.specs.Line.{Kind, plain, signed, limited, in_num, limit}
 use Rattle.codec.proofs.Laws.Tests.{and_in, and_l, and_r}
 use Rattle.longest.proofs.Laws.Ranges.{lowest, highest}
-use Rattle.words.specs.Numbers.{is_signed, signed_value, signed_in, whole_in}
+use Rattle.std.specs.Bool.{then_some}
+use Rattle.words.specs.Numbers.{is_signed, signed_value, signed_in, within_32, whole_in}
+use Rattle.words.specs.Laws.Numbers.{whole_told}
 use Rattle.guess.specs.Guess.{value_in, fits_piece, piece_in}
 use Rattle.guess.proofs.Laws.Numbers.{small}
 use Rattle.walk.specs.Ranges.{ends_right, between, ranged_in}
@@ -53,22 +55,21 @@ in_fits (limited lo hi) w e z b = and_in (in_signed (2 ^ w) z) _ (go lo hi z (an
 fits_between : (k : Kind) (w : ℕ) → T (ends_right k w) → (z : ℤ) → fits_piece k w z ≡ between (lowest k w) (highest k w) z
 fits_between k w e z = same_test (fits_piece k w z) (between (lowest k w) (highest k w) z) (fits_in k w z) (in_fits k w e z)
 
-module _ (lo hi : ℤ) (t : List ℕ) {n : ℤ} (e : n ≡ whole_in (value_in t)) where
-  ranged_by : (b : Bool) → between lo hi n ≡ b → pick b n (pos 0) ≡ ranged_in lo hi t
-  unfolding ranged_in
-  ranged_by b eb = ap₂ (λ x z. pick x z (pos 0)) (sym eb ∙ ap (between lo hi) e) e
+pub ranged_told : (lo hi : ℤ) (t : List ℕ) → unwrap_or (option_and_then (λ z. then_some (between lo hi z) z) (within_32 (signed_in (value_in t)))) (pos 0) ≡ ranged_in lo hi t
+unfolding ranged_in
+ranged_told lo hi t = by_answer (within_32 (signed_in (value_in t))) ∙ ap (λ z. pick (between lo hi z) z (pos 0)) (whole_told (value_in t))
+  where
+    either : (b : Bool) (z : ℤ) → unwrap_or (then_some b z) (pos 0) ≡ pick b z (pos 0)
+    either true z = refl
+    either false z = refl
 
-  pub ranged_there : le_z lo n ≡ true → le_z n hi ≡ true → n ≡ ranged_in lo hi t
-  unfolding between
-  ranged_there a b = ranged_by true (rw (a, b) refl)
+    none : (b : Bool) → pos 0 ≡ pick b (pos 0) (pos 0)
+    none true = refl
+    none false = refl
 
-  pub ranged_high : le_z lo n ≡ true → le_z n hi ≡ false → pos 0 ≡ ranged_in lo hi t
-  unfolding between
-  ranged_high a b = ranged_by false (rw (a, b) refl)
-
-  pub ranged_low : le_z lo n ≡ false → pos 0 ≡ ranged_in lo hi t
-  unfolding between
-  ranged_low a = ranged_by false (rw a refl)
+    by_answer : (o : Option ℤ) → unwrap_or (option_and_then (λ z. then_some (between lo hi z) z) o) (pos 0) ≡ pick (between lo hi (unwrap_or o (pos 0))) (unwrap_or o (pos 0)) (pos 0)
+    by_answer None = none (between lo hi (pos 0))
+    by_answer (Some z) = either (between lo hi z) z
 
 abbrev fitting : Kind → ℕ → ℤ → ℤ
 fitting k w z = pick (fits_piece k w z) z (pos 0)

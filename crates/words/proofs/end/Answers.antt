@@ -1,29 +1,12 @@
--- `words::end` meets its contract: from each place that the loop reaches the end is the same. Assumes nothing.
-use mathlib.Core.Path.{refl, ◌∙◌}
-use native.Mathlib.Omega.{arith}
-use Rattle.words.specs.Laws.Lines.{at_space, at_other, at_end}
+-- The place of the first space, or the length.
+use Rattle.std.proofs.Common.{nat_eq, length, unwrap_or, ap, ◌∙◌, rules, tests}
+use Rattle.std.proofs.lemmas.Iterator.Search.{position_from_yields_List}
+use Rattle.std.proofs.lemmas.Iterator.{YieldsList-from_slice}
+use Rattle.words.specs.Laws.Lines.{word_length_is}
 use Rattle.words.proofs.end.Goals as goal
-
-pub loop-i-init : goal.loop-i-init
-loop-i-init c = refl
-
-pub bounds-line-i : goal.bounds-line-i
-bounds-line-i c = omega arith
-
-pub returns-then-line-i-eq32 : goal.returns-then-line-i-eq32
-returns-then-line-i-eq32 c =
-    omega (arith, at_space c.args.line.now c.loop-i.i (omega arith) c.if-line-i-eq32.true)
-
-pub overflow_add-i : goal.overflow_add-i
-overflow_add-i c = omega arith
-
-pub loop-i-smaller : goal.loop-i-smaller
-loop-i-smaller c = omega arith
-
-pub loop-i-preserved : goal.loop-i-preserved
-loop-i-preserved c =
-    c.loop-i.invariant ∙ at_other c.args.line.now c.loop-i.i (omega arith) c.if-line-i-eq32.false
 
 pub returns : goal.returns
 returns c =
-    omega (arith, at_end c.args.line.now c.loop-i.i (omega arith))
+    let rest = c.args.rest.now in
+    let place = position_from_yields_List (λ o. nat_eq o 32) _ _ c.position.result c.position.ensures.ran (YieldsList-from_slice _ c.iter.ensures.rest) (λ x b q k. search (rules, tests)) in
+    c.unwrap_or.ensures ∙ ap (λ p. unwrap_or p (length rest)) place ∙ word_length_is rest

@@ -1,34 +1,26 @@
--- `words::signed` meets its contract: what follows the `-` is the magnitude. Assumes nothing.
-use mathlib.Core.Path.{ap, ◌∙◌}
-use Prim.Native.Nat.{◌<◌}
-use native.Mathlib.Omega.{arith}
-use borrow.Author.Rules.{sfits_of}
-use lib.IntN.{pos}
-use mir.Syntax.{w64}
-use mir.Facts.{to_z-of_z, to_z_pos}
-use Rattle.words.specs.Laws.Lines.{inside_some}
-use Rattle.words.specs.Numbers.{number_in, below}
-use Rattle.words.specs.Laws.Numbers.{signed_none, signed_above, signed_below, number_within}
+-- What follows the `-` is the magnitude.
+use Rattle.std.proofs.Common.{◌≡◌, ◌∷◌, ◌∙◌, []}
+use Rattle.std.proofs.lemmas.Bool.Decides.{Decides-eqb}
+use Rattle.std.proofs.lemmas.Slice.Eq.{strip_prefix_is}
+use Rattle.words.specs.Laws.Numbers.{minus_none, minus_some, plain_none, plain_some}
+use Rattle.words.proofs.signed.Goals.{In-Some, In-None}
 use Rattle.words.proofs.signed.Goals as goal
 
-pub returns-then-word-eq0 : goal.returns-then-word-eq0
-returns-then-word-eq0 c = signed_none c.args.word.now c.if-word-eq0.true
+minus : (c : In-Some) → c.args.word.now ≡ 45 ∷ c.in-Some.digits.now
+minus c = rw c.in-Some.is at (strip_prefix_is Decides-eqb c.args.word.now (45 ∷ []) c.strip_prefix.result c.strip_prefix.ensures.cases)
 
-pub returns-then-word-eq45 : goal.returns-then-word-eq45
-returns-then-word-eq45 c =
-    let w = c.args.word.now in
-    rw (to_z-of_z (sfits_of c.below.type_inv))
-    (c.below.ensures ∙ ap below (c.number.ensures ∙ ap (number_in 2_147_483_648) (inside_some w)) ∙ signed_below w c.if-word-eq45.true)
+plain : (c : In-None) (digits : _) → c.args.word.now ≡ 45 ∷ digits → ⊥
+plain c = rw c.in-None.is at (strip_prefix_is Decides-eqb c.args.word.now (45 ∷ []) c.strip_prefix.result c.strip_prefix.ensures.cases)
 
-pub overflow_cast-result : goal.overflow_cast-result
-overflow_cast-result c =
-    let small : c.number-2.result < 9_223_372_036_854_775_808 =
-    omega (arith, c.number-2.ensures, number_within 2_147_483_647 c.args.word.now) in
-    record { sfits = small }
+pub returns-in_err-number-in-Some : goal.returns-in_err-number-in-Some
+returns-in_err-number-in-Some c = c.from_residual.ensures ∙ minus_none _ _ (minus (goal.at.returns-in_err-number-in-Some c).In-Some) c.in_err-number-in-Some.ensures
 
-pub returns : goal.returns
-returns c =
-    let small : c.number-2.result < 9_223_372_036_854_775_808 =
-    omega (arith, c.number-2.ensures, number_within 2_147_483_647 c.args.word.now) in
-    let w = c.args.word.now in
-    to_z_pos w64 small ∙ ap pos c.number-2.ensures ∙ signed_above w c.if-word-eq45.false
+pub returns-in_err-number-in-None : goal.returns-in_err-number-in-None
+returns-in_err-number-in-None c =
+    c.from_residual-in_err-number-in-None.ensures ∙ plain_none _ (plain (goal.at.returns-in_err-number-in-None c).In-None) c.in_err-number-in-None.ensures
+
+pub returns-in_ok-number-in-Some : goal.returns-in_ok-number-in-Some
+returns-in_ok-number-in-Some c = c.below.ensures ∙ minus_some _ _ (minus (goal.at.returns-in_ok-number-in-Some c).In-Some) c.in_ok-number-in-Some.ensures
+
+pub returns-in_ok-number-in-None : goal.returns-in_ok-number-in-None
+returns-in_ok-number-in-None c = plain_some _ (plain (goal.at.returns-in_ok-number-in-None c).In-None) c.in_ok-number-in-None.ensures

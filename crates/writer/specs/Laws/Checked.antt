@@ -10,9 +10,7 @@ use Rattle.codec.specs.Codec.{Octets}
 use Rattle.codec.proofs.Laws.Tests.{holds}
 use Rattle.papers.specs.Papers.{known}
 use Rattle.layout.specs.declared.Record.{Record}
-use Rattle.layout.specs.declared.Reading.{Reading}
-use Rattle.layout.specs.declared.Answer.{Answer}
-use Rattle.layout.specs.declared.Answer.TheVariants.{Accepted, Refused}
+use Rattle.layout.specs.Answer.{Reading, Answer, Accepted, Refused}
 use Rattle.scope.specs.Reading.{no_record, read_of}
 use Rattle.scope.specs.Writing.{writable, written}
 use Rattle.scope.specs.Outputs.{answer_of}

@@ -103,15 +103,15 @@ module _ (code left : ℕ) (some : left ≡ 0 → ⊥) (l : List ℤ) (slot : �
       er ∙ e ∙ sym (ap (λ ps. gathered ps l slot) (more_spare code left some z))
 
   module _ (z : code % 256 / 32 ≡ 0 → ⊥) {d p : ℕ} (ed : d ≡ low_bits w (number_at l slot)) (ef : p ≡ 2 ^ (bits - w)) where
-    pub gather_on : {r : ℕ} → r ≡ gathered qs l (slot + 1) → d * p + r ≡ gathered (pieces_from left code) l slot
+    pub gather_on : {r after : ℕ} → after ≡ slot + 1 → r ≡ gathered qs l after → d * p + r ≡ gathered (pieces_from left code) l slot
     unfolding gathered widths digits_at join
-    gather_on er =
-        ap₂ ◌+◌ (ap₂ ◌*◌ ed (ef ∙ ap (2 ^◌) first_bits.1)) er ∙ sym (ap (λ ps. gathered ps l slot) (more_num code left some z))
+    gather_on ea er =
+        ap₂ ◌+◌ (ap₂ ◌*◌ ed (ef ∙ ap (2 ^◌) first_bits.1)) (er ∙ ap (gathered qs l) ea) ∙ sym (ap (λ ps. gathered ps l slot) (more_num code left some z))
 
     -- nothing runs over
-    pub gather_sum : {r : ℕ} → r ≡ gathered qs l (slot + 1) → d * p + r < 2 ^ bits
-    gather_sum er =
-        subst (λ x. x < 2 ^ bits) (sym (gather_on er)) (subst (λ n. gathered (pieces_from left code) l slot < 2 ^ n) (sym eb) (gathered_lt (pieces_from left code) l slot))
+    pub gather_sum : {r after : ℕ} → after ≡ slot + 1 → r ≡ gathered qs l after → d * p + r < 2 ^ bits
+    gather_sum ea er =
+        subst (λ x. x < 2 ^ bits) (sym (gather_on ea er)) (subst (λ n. gathered (pieces_from left code) l slot < 2 ^ n) (sym eb) (gathered_lt (pieces_from left code) l slot))
 
     pub gather_product : d * p < 2 ^ bits
-    gather_product = let s : d * p + gathered qs l (slot + 1) < 2 ^ bits = gather_sum refl in omega arith
+    gather_product = let s : d * p + gathered qs l (slot + 1) < 2 ^ bits = gather_sum refl refl in omega arith

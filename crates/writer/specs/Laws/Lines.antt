@@ -97,8 +97,8 @@ module _ (b : ℕ) {r : Format} (er : r ≡ format_of (placed_at b)) where
           let p : n < 2 ^ total (widths (pieces_from r.runs r.pieces)) = subst (◌< 2 ^ total (widths (pieces_from r.runs r.pieces))) (sym en) (gathered_lt (pieces_from r.runs r.pieces) l (base + r.first)) in
           rw (ef, e, pow-add 2 (total (widths (pieces_from r.runs r.pieces))) r.below) (digits_lt p (mod-lt fx (pow_pos r.below)))
 
-      pub line_laid : {m : List ℕ} → m ≡ sets o at (cut (eights r.octets) (n * f + fx % f)) → (zs : List ℤ) → Holds l (base + first_at b) zs → Lays (line (line_at b)) (fx, zs) o at m (at + r.octets)
-      line_laid {m} em zs h = record {
+      pub line_laid : {m : List ℕ} {next : ℕ} → m ≡ sets o at (cut (eights r.octets) (n * f + fx % f)) → next ≡ at + r.octets → (zs : List ℤ) → Holds l (base + first_at b) zs → Lays (line (line_at b)) (fx, zs) o at m next
+      line_laid em e zs h = record {
         laid = λ t room.
             let lo : fx % 2 ^ (line_at b).fx ≡ fx = mod-eq_of_lt (line_fx (line_at b) (fx, zs) t) in
             let whole : n ≡ join (widths (line_at b).pieces) (unnums (line_at b).pieces zs)
@@ -107,6 +107,6 @@ module _ (b : ℕ) {r : Format} (er : r ≡ format_of (placed_at b)) where
             let same : n * f + fx % f ≡ join (widths (line_at b).pieces) (unnums (line_at b).pieces zs) * 2 ^ (line_at b).fx + fx
             = ap₂ ◌+◌ (ap₂ ◌*◌ whole pf) (ap (fx %◌) pf ∙ lo) in record {
               octets = em ∙ ap (sets o at) (ap₂ (λ k x. cut (eights k) x) (format_octets b er) same ∙ sym (line_written (line_at b) fx zs));
-              place = ap (at +◌) (format_octets b er ∙ sym (line_size (line_at b) (fx, zs)));
+              place = e ∙ ap (at +◌) (format_octets b er ∙ sym (line_size (line_at b) (fx, zs)));
             };
       }

@@ -1,36 +1,17 @@
--- What the tests tell that compare two records.
-use Rattle.std.specs.Prelude.{◌≡◌, refl, Bool, true, false, List, [], ◌∷◌, ◌++◌, ℕ, ◌+◌, ◌≤◌, ◌<◌, T, length, take, get_or}
-use Rattle.std.proofs.Common.{sym, ap, ap₂, ◌∙◌, subst, add-one, take-suc, take_all}
+-- `==` on records tells whether they are the same.
+use Rattle.std.specs.Prelude.{◌≡◌, ◌&&◌, eqb}
+use Rattle.std.specs.Bool.{Decides}
+use Rattle.std.specs.Ordering.{int_eq}
+use Rattle.std.specs.Cmp.Lexicographic.{pointwise, pointwise_decides}
+use Rattle.std.specs.Cmp.Rules.{signed_items}
+use Rattle.std.proofs.Common.{ap}
+use Rattle.std.proofs.lemmas.Bool.Decides.{Decides-eqb, Decides-and, Decides-like}
 use Rattle.layout.specs.declared.Record.{Record}
-use Rattle.writer.specs.Same.{Tells}
 
-false≢true : false ≡ true → ⊥
-false≢true e = subst T (sym e) tt
-
--- where they differ in something
-pub told_apart : {A B : Type 0} {a b : A} (part : A → B) → (part a ≡ part b → ⊥) → Tells false a b
-told_apart part h = record { yes = λ e. absurd (false≢true e); no = λ e. absurd (h (ap part e)) }
-
--- what a test denies
-pub denied : {A : Type 0} {r : Bool} {a b : A} → (a ≡ b → r ≡ true) → r ≡ false → a ≡ b → ⊥
-denied agrees e h = false≢true (sym e ∙ agrees h)
-
--- ---- two lists of one length, element by element
-
-module _ {A : Type 0} (a b : List A) (l : length a ≡ length b) (i : ℕ) (alike : take i a ≡ take i b) where
-  -- one element more that is the same
-  pub alike_more : (z : A) → i < length a → get_or a i z ≡ get_or b i z → take (i + 1) a ≡ take (i + 1) b
-  alike_more z h e =
-      rw (add-one i) (take-suc a i z h ∙ ap₂ (λ xs x. xs ++ (x ∷ [])) alike e ∙ sym (take-suc b i z (subst (i <◌) l h)))
-
-  -- no element is left
-  pub told_alike : length a ≤ i → Tells true a b
-  told_alike h = record { yes = λ e. sym (take_all i a h) ∙ alike ∙ take_all i b (subst (◌≤ i) l h); no = λ e. refl }
-
--- ---- two records, field by field
-
-pub told_records : (f g : Record) {r : Bool} → f.cat ≡ g.cat → f.items ≡ g.items → f.parts ≡ g.parts → Tells r f.numbers g.numbers → Tells r f g
-told_records f g c i p t = record {
-  yes = λ e k. record { cat = c k; items = i k; parts = p k; numbers = t.yes e k };
-  no = λ e. t.no (ap (λ (x : Record). x.numbers) e);
-}
+pub same_records : (f g : Record)
+    → Decides (eqb f.cat g.cat && (eqb f.items g.items && (pointwise eqb f.parts g.parts && pointwise int_eq f.numbers g.numbers))) (f ≡ g)
+same_records f g =
+    Decides-like _ (λ p k. record { cat = p.0 k; items = p.1.0 k; parts = p.1.1.0 k; numbers = p.1.1.1 k })
+    (λ e. (ap (λ (x : Record). x.cat) e, (ap (λ (x : Record). x.items) e, (ap (λ (x : Record). x.parts) e, ap (λ (x : Record). x.numbers) e))))
+    (Decides-and _ _ (Decides-eqb f.cat g.cat)
+    (Decides-and _ _ (Decides-eqb f.items g.items) (Decides-and _ _ (pointwise_decides Decides-eqb f.parts g.parts) (signed_items f.numbers g.numbers))))

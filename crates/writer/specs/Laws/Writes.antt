@@ -9,8 +9,7 @@ use Rattle.codec.specs.Pick.{pick}
 use Rattle.codec.specs.Frame.{accepted, refused}
 use Rattle.papers.specs.Papers.{known}
 use Rattle.layout.specs.declared.Record.{Record}
-use Rattle.layout.specs.declared.Answer.{Answer}
-use Rattle.layout.specs.declared.Answer.TheVariants.{Accepted, Refused}
+use Rattle.layout.specs.Answer.{Answer, Accepted, Refused}
 use Rattle.scope.specs.Writing.{writable, written, write_of, Wrote}
 use Rattle.scope.specs.Outputs.{with_room, answer_of, after, Leaves}
 use Rattle.layout.specs.Laws.Answer.{Refused≢Accepted, Accepted≢Refused}

@@ -30,42 +30,23 @@ one_more xs at i n x h e g =
 
 pub loop-i-init : goal.loop-i-init
 unfolding join
-loop-i-init c = search rules
+loop-i-init c = let e : c.args.at - c.args.at ≡ 0 = omega arith in rw e (search rules)
 
 pub overflow_mul-n : goal.overflow_mul-n
-overflow_mul-n c = Fits-of_lt (omega (arith, under5 c.loop-i.n c.loop-i.i (search rules) c.loop-i.invariant.2))
-
-pub overflow_add-at : goal.overflow_add-at
-overflow_add-at c = omega arith
-
-pub bounds-s-at : goal.bounds-s-at
-bounds-s-at c = omega arith
-
-pub wide64-requires : goal.wide64-requires
-wide64-requires c = search rules
+overflow_mul-n c = Fits-of_lt (omega (arith, under5 c.loop-i.n (c.loop-i.i - c.args.at) (omega arith) c.loop-i.invariant.1))
 
 pub overflow_add-n : goal.overflow_add-n
 overflow_add-n c =
-    Fits-of_lt (omega (arith, under5 c.loop-i.n c.loop-i.i (search rules) c.loop-i.invariant.2, c.wide64.ensures.1))
-
-pub overflow_add-i : goal.overflow_add-i
-overflow_add-i c = search rules
-
-pub loop-i-smaller : goal.loop-i-smaller
-loop-i-smaller c = search rules
+    Fits-of_lt (omega (arith, under5 c.loop-i.n (c.loop-i.i - c.args.at) (omega arith) c.loop-i.invariant.1, c.wide64.ensures.1))
 
 pub loop-i-preserved : goal.loop-i-preserved
 loop-i-preserved c =
     let a = c.args in
-    let i : ℕ = c.loop-i.i in
-    let e : 2 ^ (8 * (i + 1)) ≡ 256 * 2 ^ (8 * i) = pow8 i in (
-      omega arith,
-      one_more a.s.now a.at i c.loop-i.n _ (omega arith) c.loop-i.invariant.1 c.wide64.ensures.0,
-      omega (arith, c.wide64.ensures.1, c.loop-i.invariant.2),
+    let j : ℕ = c.loop-i.i - a.at in
+    let e : c.loop-i.i + 1 - a.at ≡ j + 1 = omega arith in
+    let at : a.at + j ≡ c.loop-i.i = omega arith in
+    let p : 2 ^ (8 * (j + 1)) ≡ 256 * 2 ^ (8 * j) = pow8 j in
+    rw e (
+      one_more a.s.now a.at j c.loop-i.n _ (omega arith) c.loop-i.invariant.0 (c.wide64.ensures.0 ∙ ap (λ i. get_or a.s.now i 0) (sym at)),
+      omega (arith, c.wide64.ensures.1, c.loop-i.invariant.1),
     )
-
-pub returns : goal.returns
-returns c =
-    let a = c.args in
-    let ik : c.loop-i.i ≡ a.k = omega arith in
-    (c.loop-i.invariant.1 ∙ ap (λ m. join (eights m) (take m (drop a.at a.s.now))) ik, subst (λ m. c.loop-i.n < 2 ^ (8 * m)) ik c.loop-i.invariant.2)

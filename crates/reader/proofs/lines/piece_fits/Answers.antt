@@ -1,14 +1,14 @@
 -- `reader::lines::piece_fits` meets its contract: one law at each way out. Assumes nothing.
 use mathlib.Core.Path.{◌≡◌, sym, ap, ◌∙◌, subst}
-use Prim.Native.Nat.{◌^◌, ◌/◌, ◌%◌, ◌<◌}
+use Prim.Native.Nat.{◌^◌, ◌/◌, ◌<◌}
 use native.Mathlib.Nat.{mod-lt}
 use native.Mathlib.Omega.{arith}
-use borrow.Author.Rules.{sfits_of}
+use borrow.Author.Rules.{rules}
 use lib.Pow.{pow_pos}
-use mir.Syntax.{w32}
-use mir.Facts.{to_z-of_z}
+use lib.IntN.{pos, negsuc}
 use Rattle.codec.specs.Line.{to_num, limit}
 use Rattle.lengths.specs.Lines.{kind_of}
+use Rattle.reader.specs.Numbers.{inside}
 use Rattle.reader.specs.Laws.Numbers.{limit_lat, limit_ga}
 use Rattle.reader.specs.Laws.Limits.{free_fits, number_fits}
 use Rattle.reader.proofs.lines.piece_fits.Goals as goal
@@ -23,16 +23,14 @@ number-z-requires c =
 
 pub returns-then-kind-eq3 : goal.returns-then-kind-eq3
 returns-then-kind-eq3 c =
-    let made : (let a = c.args in c.number-z.result ≡ to_num (kind_of a.kind) a.w (a.n / 2 ^ a.next % 2 ^ a.w)) =
-    let a = c.args in c.number-z.ensures ∙ ap (to_num (kind_of a.kind) a.w) c.low.ensures in
     let a = c.args in
-    let z = to_z-of_z {w = w32} {z = c.number-z.result} (sfits_of c.number-z.type_inv) in
-    c.between.ensures ∙ rw z (limit_lat a.kind c.number-z.result c.if-kind-eq3.true ∙ ap (limit (kind_of a.kind)) made ∙ number_fits a.kind a.w a.n a.next (λ e. omega (arith, e, c.if-kind-lt3.false)))
+    let limits : c.contains.result ≡ inside (negsuc 4_194_303) (pos 4_194_304) c.number-z.result = search rules in
+    let made = c.number-z.ensures ∙ ap (to_num (kind_of a.kind) a.w) c.low.ensures in
+    limits ∙ limit_lat a.kind c.number-z.result c.if-kind-eq3.true ∙ ap (limit (kind_of a.kind)) made ∙ number_fits a.kind a.w a.n a.next (λ e. omega (arith, e, c.if-kind-lt3.false))
 
 pub returns : goal.returns
 returns c =
-    let made : (let a = c.args in c.number-z.result ≡ to_num (kind_of a.kind) a.w (a.n / 2 ^ a.next % 2 ^ a.w)) =
-    let a = c.args in c.number-z.ensures ∙ ap (to_num (kind_of a.kind) a.w) c.low.ensures in
     let a = c.args in
-    let z = to_z-of_z {w = w32} {z = c.number-z.result} (sfits_of c.number-z.type_inv) in
-    c.between-2.ensures ∙ rw z (limit_ga a.kind c.number-z.result c.if-kind-lt3.false c.if-kind-eq3.false ∙ ap (limit (kind_of a.kind)) made ∙ number_fits a.kind a.w a.n a.next (λ e. omega (arith, e, c.if-kind-lt3.false)))
+    let limits : c.contains-2.result ≡ inside (negsuc 39) (pos 8_191) c.number-z.result = search rules in
+    let made = c.number-z.ensures ∙ ap (to_num (kind_of a.kind) a.w) c.low.ensures in
+    limits ∙ limit_ga a.kind c.number-z.result c.if-kind-lt3.false c.if-kind-eq3.false ∙ ap (limit (kind_of a.kind)) made ∙ number_fits a.kind a.w a.n a.next (λ e. omega (arith, e, c.if-kind-lt3.false))

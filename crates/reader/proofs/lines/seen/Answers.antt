@@ -16,7 +16,7 @@ short-requires c = (c.requires.1, format_few c.args.b c.format_of-format.ensures
 pub returns-then-short : goal.returns-then-short
 returns-then-short c =
     let a = c.args in
-    ends_bad 5 a.at (line_missing a.s.now a.at a.b c.format_of-format.ensures (ltb-true (length a.s.now - a.at) _ (sym c.short.ensures ∙ c.if-short.true))) refl (omega arith, omega arith, c.requires.1)
+    ends_bad 5 a.at (line_missing a.s.now a.at a.b c.format_of-format.ensures (ltb-true (length a.s.now - a.at) _ (sym c.short.ensures ∙ c.if-short.true))) c.refused.ensures (omega arith, omega arith, c.requires.1)
 
 pub octets-n-requires : goal.octets-n-requires
 octets-n-requires c =
@@ -42,14 +42,14 @@ pub returns-then-n-format-eq0 : goal.returns-then-n-format-eq0
 returns-then-n-format-eq0 c =
     let a = c.args in
     let h = ltb-false (length a.s.now - a.at) _ (sym c.short.ensures ∙ c.if-short.false) in
-    ends_bad 8 a.at (line_outside a.s.now a.at a.b c.format_of-format.ensures h c.octets-n.ensures.0 c.octets-n.ensures.1 c.if-n-format-eq0.true c.within.ensures c.if-within.false) refl (omega arith, omega arith, c.requires.1)
+    ends_bad 8 a.at (line_outside a.s.now a.at a.b c.format_of-format.ensures h c.octets-n.ensures.0 c.octets-n.ensures.1 c.if-n-format-eq0.true c.within.ensures c.if-within.false) c.refused-then-n-format-eq0.ensures (omega arith, omega arith, c.requires.1)
 
 pub returns : goal.returns
 returns c =
     let a = c.args in
     let h = ltb-false (length a.s.now - a.at) _ (sym c.short.ensures ∙ c.if-short.false) in
-    ends_bad 6 a.at (line_spared a.s.now a.at a.b c.format_of-format.ensures h c.octets-n.ensures.0 c.octets-n.ensures.1 c.if-n-format-eq0.false) refl (omega arith, omega arith, c.requires.1)
+    ends_bad 6 a.at (line_spared a.s.now a.at a.b c.format_of-format.ensures h c.octets-n.ensures.0 c.octets-n.ensures.1 c.if-n-format-eq0.false) c.refused-2.ensures (omega arith, omega arith, c.requires.1)
 
-pub overflow_add-result-then-within : goal.overflow_add-result-then-within
-overflow_add-result-then-within c =
+pub overflow_add-result : goal.overflow_add-result
+overflow_add-result c =
     Fits-of_lt (omega (arith, c.requires.1, format_few c.args.b c.format_of-format.ensures))

@@ -22,13 +22,13 @@ returns-then-kind-eq0 c =
 pub number-requires : goal.number-requires
 number-requires c =
     let a = c.args in
-    (subst (◌< 2 ^ a.w) (sym c.low.ensures) (mod-lt (a.n / 2 ^ a.next) (pow_pos a.w)), (c.requires.3 c.if-kind-eq0.false).0)
+    (subst (◌< 2 ^ a.w) (sym c.low.ensures) (mod-lt (a.n / 2 ^ a.next) (pow_pos a.w)), (c.requires.2 c.if-kind-eq0.false).0)
 
 pub offset_bounds-numbers-slot : goal.offset_bounds-numbers-slot
-offset_bounds-numbers-slot c = Fits-of_lt (omega (arith, c.requires.2, c.requires.3 c.if-kind-eq0.false))
+offset_bounds-numbers-slot c = Fits-of_lt (omega (arith, c.requires.2 c.if-kind-eq0.false))
 
 pub bounds-numbers-slot : goal.bounds-numbers-slot
-bounds-numbers-slot c = (c.requires.3 c.if-kind-eq0.false).1
+bounds-numbers-slot c = omega (arith, c.requires.2 c.if-kind-eq0.false)
 
 pub returns : goal.returns
 returns c =

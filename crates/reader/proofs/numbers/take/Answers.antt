@@ -20,7 +20,7 @@ overflow_add-base c =
 pub store-requires : goal.store-requires
 store-requires c =
     let b = c.args.b in let e = c.format_of-format.ensures in
-    (omega (arith, format_few b e), format_runs b e, format_narrow b e, omega (arith, row_room b e c.octets-n.result c.args.base c.requires.1, c.requires.2), omega (arith, c.requires.2))
+    (omega (arith, format_few b e), format_runs b e, format_narrow b e, omega (arith, row_room b e c.octets-n.result c.args.base c.requires.1))
 
 pub overflow_add-result : goal.overflow_add-result
 overflow_add-result c =

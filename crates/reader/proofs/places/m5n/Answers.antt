@@ -14,7 +14,9 @@ use Rattle.reader.specs.Laws.Items.{item_from}
 use Rattle.reader.specs.Laws.Parts.{Bits, bits, flag_leads, flag_behind, behind_some, two_hold}
 use Rattle.reader.specs.Laws.Onward.{chain-from, by_octet}
 use Rattle.reader.specs.Laws.Looked.{look_chain, look_on}
-use Rattle.reader.specs.Laws.Seen.{ends_same}
+use Rattle.reader.specs.Laws.Seen.{went_by, ends_same}
+use Rattle.std.specs.Prelude.{T}
+use Rattle.std.proofs.iter.Serving.{serving}
 use Rattle.reader.proofs.places.m5n.Goals as goal
 
 first_bits : Bits 8 7
@@ -25,9 +27,12 @@ second_bits : Bits 9 1
 unfolding nums to_num widths cut total placed_at placed placed_in placed_from lines_of items cat048 cat021 cat007
 second_bits = record { part = refl; octet = refl; numbers = λ m. refl }
 
-pub last-parts-requires : goal.last-parts-requires
+lone : T (parts_ok 9 0)
 unfolding parts_ok count placed_at placed placed_in placed_from lines_of items cat048 cat021 cat007
-last-parts-requires c = (search rules, tt)
+lone = tt
+
+pub there-parts-requires : goal.there-parts-requires
+there-parts-requires c = grind (serving, lone)
 
 pub returns : goal.returns
 unfolding parts_ok flags_under item_run item_at item_of more_from lines_from slots_of count cut total placed_at placed placed_in placed_from lines_of items cat048 cat021 cat007
@@ -36,7 +41,7 @@ returns c =
     let z = get_or xs a.at 0 in
     let y = get_or xs (a.at + 1) 0 in
     let rest : List ℤ = pick (eqb (z % 2) 1) (bits 1 y) (replicate 1 (pos 0)) in
-    let h0 = look_chain xs _ (chain-from 8 xs 0 tt a.at c.seen-part.ensures (by_octet xs c.before-2.ensures c.last-parts.ensures)) (two_hold 8 7 1 first_bits second_bits xs a.at) in
+    let h0 = look_chain xs _ (chain-from 8 xs 0 tt a.at c.seen-part.ensures (by_octet xs c.before-2.ensures (went_by c.there-parts.ensures (λ _ p. search rules)))) (two_hold 8 7 1 first_bits second_bits xs a.at) in
     let h1 = look_on 10 xs _ h0 (omega arith) (flag_leads z rest 0 (omega arith) (ap (λ x. flag_at x 0) u)) c.line-sum.ensures in
     let h2 = look_on 11 xs _ h1 (omega arith) (flag_leads z rest 1 (omega arith) (ap (λ x. flag_at x 1) u)) c.line-pmn.ensures in
     let h3 = look_on 12 xs _ h2 (omega arith) (flag_leads z rest 2 (omega arith) (ap (λ x. flag_at x 2) u)) c.line-pos.ensures in

@@ -12,7 +12,7 @@ returns-then-n-ge-BAD c =
 pub returns-then-present : goal.returns-then-present
 returns-then-present c =
     let a = c.args in
-    only_over a.b a.s.now a.at c.requires.2 c.seen-n.ensures (omega (arith, c.if-n-ge-BAD.false)) (c.present.ensures ∙ c.before-2.ensures) c.if-present.true c.requires.1
+    rw c.refused.ensures (only_over a.b a.s.now a.at c.requires.2 c.seen-n.ensures (omega (arith, c.if-n-ge-BAD.false)) (c.present.ensures ∙ c.before-2.ensures) c.if-present.true c.requires.1)
 
 pub returns : goal.returns
 returns c =

@@ -11,67 +11,56 @@ use Rattle.shapes.specs.Shapes.{item_at}
 use Rattle.spots.specs.Spots.{spots_from, spots, spot_at}
 use Rattle.reader.specs.Rows.{place_run}
 use Rattle.reader.specs.Taking.{opt_run, line_opt}
-use Rattle.reader.specs.Laws.Records.{Row, none_taken, is_there_lem, one_taken, all_taken}
+use Rattle.reader.specs.Laws.Records.{Row, none_taken, next_asks, next_taken, all_taken}
 use Rattle.reader.proofs.rows.row_007.Goals as goal
 
 pub line-ta-requires : goal.line-ta-requires
 unfolding place_run opt_run line_opt spot_at spots spots_from item item_at slots slots_of placed_at placed placed_in placed_from lines_of items cat048 cat021 cat007 count
 line-ta-requires c =
-    let t0 : Row 13 5 _ _ _ _ 0 0 _ _ = none_taken c.args.numbers.now c.requires in
-    let t = t0 in (t.full, refl, refl, omega arith, is_there_lem t tt c.present.ensures c.wide.ensures.0)
+    let t0 : Row 13 5 _ _ _ _ 0 0 _ _ = none_taken c.args.numbers.now (omega arith, c.requires) in
+    let t = t0 in (refl, refl, omega arith, next_asks t tt c.start.ensures)
 
 pub m5n-m5n-requires : goal.m5n-m5n-requires
 unfolding place_run opt_run line_opt spot_at spots spots_from item item_at slots slots_of placed_at placed placed_in placed_from lines_of items cat048 cat021 cat007 count
 m5n-m5n-requires c =
-    let t0 : Row 13 5 _ _ _ _ 0 0 _ _ = none_taken c.args.numbers.now c.requires in
-    let t1 : Row 13 5 _ _ _ _ 1 2 _ _ = one_taken t0 tt c.present.ensures c.wide.ensures.0 c.line-ta.ensures in
-    let t = t1 in (t.full, omega arith, is_there_lem t tt c.present-2.ensures c.wide-2.ensures.0)
+    let t0 : Row 13 5 _ _ _ _ 0 0 _ _ = none_taken c.args.numbers.now (omega arith, c.requires) in
+    let t1 : Row 13 5 _ _ _ _ 1 2 _ _ = next_taken t0 tt c.start.ensures c.line-ta.ensures in
+    let t = t1 in (omega arith, next_asks t tt c.start-2.ensures)
 
 pub m4e-m4e-requires : goal.m4e-m4e-requires
 unfolding place_run opt_run line_opt spot_at spots spots_from item item_at slots slots_of placed_at placed placed_in placed_from lines_of items cat048 cat021 cat007 count
 m4e-m4e-requires c =
-    let t0 : Row 13 5 _ _ _ _ 0 0 _ _ = none_taken c.args.numbers.now c.requires in
-    let t1 : Row 13 5 _ _ _ _ 1 2 _ _ = one_taken t0 tt c.present.ensures c.wide.ensures.0 c.line-ta.ensures in
-    let t2 : Row 13 5 _ _ _ _ 2 36 _ _ = one_taken t1 tt c.present-2.ensures c.wide-2.ensures.0 c.m5n-m5n.ensures in
-    let t = t2 in (t.full, omega arith, is_there_lem t tt c.present-3.ensures c.wide-3.ensures.0)
+    let t0 : Row 13 5 _ _ _ _ 0 0 _ _ = none_taken c.args.numbers.now (omega arith, c.requires) in
+    let t1 : Row 13 5 _ _ _ _ 1 2 _ _ = next_taken t0 tt c.start.ensures c.line-ta.ensures in
+    let t2 : Row 13 5 _ _ _ _ 2 36 _ _ = next_taken t1 tt c.start-2.ensures c.m5n-m5n.ensures in
+    let t = t2 in (omega arith, next_asks t tt c.start-3.ensures)
 
 pub rpc-rpc-requires : goal.rpc-rpc-requires
 unfolding place_run opt_run line_opt spot_at spots spots_from item item_at slots slots_of placed_at placed placed_in placed_from lines_of items cat048 cat021 cat007 count
 rpc-rpc-requires c =
-    let t0 : Row 13 5 _ _ _ _ 0 0 _ _ = none_taken c.args.numbers.now c.requires in
-    let t1 : Row 13 5 _ _ _ _ 1 2 _ _ = one_taken t0 tt c.present.ensures c.wide.ensures.0 c.line-ta.ensures in
-    let t2 : Row 13 5 _ _ _ _ 2 36 _ _ = one_taken t1 tt c.present-2.ensures c.wide-2.ensures.0 c.m5n-m5n.ensures in
-    let t3 : Row 13 5 _ _ _ _ 3 37 _ _ = one_taken t2 tt c.present-3.ensures c.wide-3.ensures.0 c.m4e-m4e.ensures in
-    let t = t3 in (t.full, omega arith, is_there_lem t tt c.present-4.ensures c.wide-4.ensures.0)
+    let t0 : Row 13 5 _ _ _ _ 0 0 _ _ = none_taken c.args.numbers.now (omega arith, c.requires) in
+    let t1 : Row 13 5 _ _ _ _ 1 2 _ _ = next_taken t0 tt c.start.ensures c.line-ta.ensures in
+    let t2 : Row 13 5 _ _ _ _ 2 36 _ _ = next_taken t1 tt c.start-2.ensures c.m5n-m5n.ensures in
+    let t3 : Row 13 5 _ _ _ _ 3 37 _ _ = next_taken t2 tt c.start-3.ensures c.m4e-m4e.ensures in
+    let t = t3 in (omega arith, next_asks t tt c.start-4.ensures)
 
 pub line-err-requires : goal.line-err-requires
 unfolding place_run opt_run line_opt spot_at spots spots_from item item_at slots slots_of placed_at placed placed_in placed_from lines_of items cat048 cat021 cat007 count
 line-err-requires c =
-    let t0 : Row 13 5 _ _ _ _ 0 0 _ _ = none_taken c.args.numbers.now c.requires in
-    let t1 : Row 13 5 _ _ _ _ 1 2 _ _ = one_taken t0 tt c.present.ensures c.wide.ensures.0 c.line-ta.ensures in
-    let t2 : Row 13 5 _ _ _ _ 2 36 _ _ = one_taken t1 tt c.present-2.ensures c.wide-2.ensures.0 c.m5n-m5n.ensures in
-    let t3 : Row 13 5 _ _ _ _ 3 37 _ _ = one_taken t2 tt c.present-3.ensures c.wide-3.ensures.0 c.m4e-m4e.ensures in
-    let t4 : Row 13 5 _ _ _ _ 4 45 _ _ = one_taken t3 tt c.present-4.ensures c.wide-4.ensures.0 c.rpc-rpc.ensures in
-    let t = t4 in (t.full, refl, refl, omega arith, is_there_lem t tt c.present-5.ensures c.wide-5.ensures.0)
-
-pub shape_of-numbers : goal.shape_of-numbers
-unfolding place_run opt_run line_opt spot_at spots spots_from item item_at slots slots_of placed_at placed placed_in placed_from lines_of items cat048 cat021 cat007 count
-shape_of-numbers c =
-    let t0 : Row 13 5 _ _ _ _ 0 0 _ _ = none_taken c.args.numbers.now c.requires in
-    let t1 : Row 13 5 _ _ _ _ 1 2 _ _ = one_taken t0 tt c.present.ensures c.wide.ensures.0 c.line-ta.ensures in
-    let t2 : Row 13 5 _ _ _ _ 2 36 _ _ = one_taken t1 tt c.present-2.ensures c.wide-2.ensures.0 c.m5n-m5n.ensures in
-    let t3 : Row 13 5 _ _ _ _ 3 37 _ _ = one_taken t2 tt c.present-3.ensures c.wide-3.ensures.0 c.m4e-m4e.ensures in
-    let t4 : Row 13 5 _ _ _ _ 4 45 _ _ = one_taken t3 tt c.present-4.ensures c.wide-4.ensures.0 c.rpc-rpc.ensures in
-    let t5 : Row 13 5 _ _ _ _ 5 46 _ _ = one_taken t4 tt c.present-5.ensures c.wide-5.ensures.0 c.line-err.ensures in
-    t5.long
+    let t0 : Row 13 5 _ _ _ _ 0 0 _ _ = none_taken c.args.numbers.now (omega arith, c.requires) in
+    let t1 : Row 13 5 _ _ _ _ 1 2 _ _ = next_taken t0 tt c.start.ensures c.line-ta.ensures in
+    let t2 : Row 13 5 _ _ _ _ 2 36 _ _ = next_taken t1 tt c.start-2.ensures c.m5n-m5n.ensures in
+    let t3 : Row 13 5 _ _ _ _ 3 37 _ _ = next_taken t2 tt c.start-3.ensures c.m4e-m4e.ensures in
+    let t4 : Row 13 5 _ _ _ _ 4 45 _ _ = next_taken t3 tt c.start-4.ensures c.rpc-rpc.ensures in
+    let t = t4 in (refl, refl, omega arith, next_asks t tt c.start-5.ensures)
 
 pub returns : goal.returns
 unfolding place_run opt_run line_opt spot_at spots spots_from item item_at slots slots_of placed_at placed placed_in placed_from lines_of items cat048 cat021 cat007 count
 returns c =
-    let t0 : Row 13 5 _ _ _ _ 0 0 _ _ = none_taken c.args.numbers.now c.requires in
-    let t1 : Row 13 5 _ _ _ _ 1 2 _ _ = one_taken t0 tt c.present.ensures c.wide.ensures.0 c.line-ta.ensures in
-    let t2 : Row 13 5 _ _ _ _ 2 36 _ _ = one_taken t1 tt c.present-2.ensures c.wide-2.ensures.0 c.m5n-m5n.ensures in
-    let t3 : Row 13 5 _ _ _ _ 3 37 _ _ = one_taken t2 tt c.present-3.ensures c.wide-3.ensures.0 c.m4e-m4e.ensures in
-    let t4 : Row 13 5 _ _ _ _ 4 45 _ _ = one_taken t3 tt c.present-4.ensures c.wide-4.ensures.0 c.rpc-rpc.ensures in
-    let t5 : Row 13 5 _ _ _ _ 5 46 _ _ = one_taken t4 tt c.present-5.ensures c.wide-5.ensures.0 c.line-err.ensures in
+    let t0 : Row 13 5 _ _ _ _ 0 0 _ _ = none_taken c.args.numbers.now (omega arith, c.requires) in
+    let t1 : Row 13 5 _ _ _ _ 1 2 _ _ = next_taken t0 tt c.start.ensures c.line-ta.ensures in
+    let t2 : Row 13 5 _ _ _ _ 2 36 _ _ = next_taken t1 tt c.start-2.ensures c.m5n-m5n.ensures in
+    let t3 : Row 13 5 _ _ _ _ 3 37 _ _ = next_taken t2 tt c.start-3.ensures c.m4e-m4e.ensures in
+    let t4 : Row 13 5 _ _ _ _ 4 45 _ _ = next_taken t3 tt c.start-4.ensures c.rpc-rpc.ensures in
+    let t5 : Row 13 5 _ _ _ _ 5 46 _ _ = next_taken t4 tt c.start-5.ensures c.line-err.ensures in
     all_taken t5 refl

@@ -1,96 +1,93 @@
 -- `reader::taking::md5` meets its contract: its part, and then its seven subfields one behind the other. Assumes nothing.
-use mathlib.Core.Path.{refl}
+use mathlib.Core.Path.{refl, ap}
 use Prim.Native.Nat.{◌+◌, ◌≤◌}
 use native.Mathlib.Omega.{arith}
 use lib.ListN.{length}
 use Rattle.reader.specs.Laws.Tables.{total, cut, to_num, widths, count, nums, slots_of, SLOTS, cat048, cat021, cat007, items, placed_from, placed_in, placed, placed_at, lines_of, item_at, lines_from, parts_ok, flags_under, item_of, more_from}
 use Rattle.reader.specs.Laws.Taking.{span_from, sub_on, item_ends, part_there, Flagged, flags_of, one_begun, one_room, item_absent}
+use Rattle.reader.specs.Taking.{is_there, place}
 use Rattle.reader.proofs.taking.md5.Goals as goal
 
 is : Flagged 0 0 7 7
 unfolding parts_ok nums to_num widths cut total slots_of flags_under item_at item_of lines_from count placed_at placed placed_in placed_from lines_of items cat048 cat021 cat007
 is = record { item = record { shape = refl; start = refl; parts = tt; under = tt }; part_bits = record { part = refl; octet = refl; numbers = λ m. refl } }
 
-pub returns-then-there : goal.returns-then-there
+pub returns : goal.returns
 unfolding more_from slots_of lines_from cut total count placed_at placed placed_in placed_from lines_of items cat048 cat021 cat007
-returns-then-there c =
-    let xs = c.args.s.now in let h0 = one_begun is xs c.args.at c.if-there.true c.requires.0 c.args.base c.take-part.ensures in
+returns c =
+    let xs = c.args.s.now in let h0 = one_begun is xs c.in-Some.at refl (omega arith) c.args.base c.take-part.ensures in
     let h1 = sub_on 1 (omega arith) h0 c.subfield-sum.ensures in let h2 = sub_on 2 (omega arith) h1 c.subfield-pmn.ensures in let h3 = sub_on 3 (omega arith) h2 c.subfield-pos.ensures in
     let h4 = sub_on 4 (omega arith) h3 c.subfield-ga.ensures in let h5 = sub_on 5 (omega arith) h4 c.subfield-em1.ensures in let h6 = sub_on 6 (omega arith) h5 c.subfield-tos.ensures in
-    item_ends is.item xs c.args.at c.if-there.true (sub_on 7 (omega arith) h6 c.subfield.ensures).item refl
+    rw c.in-Some.is (item_ends is.item xs c.in-Some.at refl (sub_on 7 (omega arith) h6 c.subfield.ensures).item refl)
 
 pub take-part-requires : goal.take-part-requires
 unfolding span_from count cut total placed_at placed placed_in placed_from lines_of items cat048 cat021 cat007
-take-part-requires c = (omega (arith, part_there is.item c.args.s.now c.args.at c.if-there.true c.requires.2), omega (arith, c.requires.1), c.requires.0)
+take-part-requires c = (omega (arith, part_there is.item c.args.s.now c.in-Some.at refl (rw c.in-Some.is at c.requires.1)), omega (arith, c.requires.0))
 
 pub bounds-s-at : goal.bounds-s-at
 unfolding span_from count cut total placed_at placed placed_in placed_from lines_of items cat048 cat021 cat007 flags_under lines_from
 bounds-s-at c =
-    let span : (c.take-part.result + span_from (flags_of 7 c.args.s.now c.args.at) 1 7 ≤ length c.args.s.now) × (c.args.base + 33 ≤ SLOTS) =
-    (one_room is c.args.s.now c.args.at c.if-there.true c.requires.0 c.args.base c.take-part.ensures c.requires.2 tt, c.requires.1) in
+    let span : (c.take-part.result + span_from (flags_of 7 c.args.s.now c.in-Some.at) 1 7 ≤ length c.args.s.now) × (c.args.base + 33 ≤ SLOTS) =
+    (one_room is c.args.s.now c.in-Some.at refl (omega arith) c.args.base c.take-part.ensures (rw c.in-Some.is at c.requires.1) tt, c.requires.0) in
     omega (arith, span)
 
 pub subfield-sum-requires : goal.subfield-sum-requires
 unfolding span_from count cut total placed_at placed placed_in placed_from lines_of items cat048 cat021 cat007 flags_under lines_from
 subfield-sum-requires c =
-    let span : (c.take-part.result + span_from (flags_of 7 c.args.s.now c.args.at) 1 7 ≤ length c.args.s.now) × (c.args.base + 33 ≤ SLOTS) =
-    (one_room is c.args.s.now c.args.at c.if-there.true c.requires.0 c.args.base c.take-part.ensures c.requires.2 tt, c.requires.1) in
-    let g = span in (omega arith, omega (arith, g), omega (arith, g))
+    let span : (c.take-part.result + span_from (flags_of 7 c.args.s.now c.in-Some.at) 1 7 ≤ length c.args.s.now) × (c.args.base + 33 ≤ SLOTS) =
+    (one_room is c.args.s.now c.in-Some.at refl (omega arith) c.args.base c.take-part.ensures (rw c.in-Some.is at c.requires.1) tt, c.requires.0) in
+    let g = span in (omega (arith, g), omega (arith, g))
 
 pub subfield-pmn-requires : goal.subfield-pmn-requires
 unfolding span_from count cut total placed_at placed placed_in placed_from lines_of items cat048 cat021 cat007 flags_under lines_from
 subfield-pmn-requires c =
-    let span : (c.take-part.result + span_from (flags_of 7 c.args.s.now c.args.at) 1 7 ≤ length c.args.s.now) × (c.args.base + 33 ≤ SLOTS) =
-    (one_room is c.args.s.now c.args.at c.if-there.true c.requires.0 c.args.base c.take-part.ensures c.requires.2 tt, c.requires.1) in
-    let g = span in (omega arith, omega (arith, g), omega (arith, g))
+    let span : (c.take-part.result + span_from (flags_of 7 c.args.s.now c.in-Some.at) 1 7 ≤ length c.args.s.now) × (c.args.base + 33 ≤ SLOTS) =
+    (one_room is c.args.s.now c.in-Some.at refl (omega arith) c.args.base c.take-part.ensures (rw c.in-Some.is at c.requires.1) tt, c.requires.0) in
+    let g = span in (omega (arith, g), omega (arith, g))
 
 pub subfield-pos-requires : goal.subfield-pos-requires
 unfolding span_from count cut total placed_at placed placed_in placed_from lines_of items cat048 cat021 cat007 flags_under lines_from
 subfield-pos-requires c =
-    let span : (c.take-part.result + span_from (flags_of 7 c.args.s.now c.args.at) 1 7 ≤ length c.args.s.now) × (c.args.base + 33 ≤ SLOTS) =
-    (one_room is c.args.s.now c.args.at c.if-there.true c.requires.0 c.args.base c.take-part.ensures c.requires.2 tt, c.requires.1) in
-    let g = span in (omega arith, omega (arith, g), omega (arith, g))
+    let span : (c.take-part.result + span_from (flags_of 7 c.args.s.now c.in-Some.at) 1 7 ≤ length c.args.s.now) × (c.args.base + 33 ≤ SLOTS) =
+    (one_room is c.args.s.now c.in-Some.at refl (omega arith) c.args.base c.take-part.ensures (rw c.in-Some.is at c.requires.1) tt, c.requires.0) in
+    let g = span in (omega (arith, g), omega (arith, g))
 
 pub subfield-ga-requires : goal.subfield-ga-requires
 unfolding span_from count cut total placed_at placed placed_in placed_from lines_of items cat048 cat021 cat007 flags_under lines_from
 subfield-ga-requires c =
-    let span : (c.take-part.result + span_from (flags_of 7 c.args.s.now c.args.at) 1 7 ≤ length c.args.s.now) × (c.args.base + 33 ≤ SLOTS) =
-    (one_room is c.args.s.now c.args.at c.if-there.true c.requires.0 c.args.base c.take-part.ensures c.requires.2 tt, c.requires.1) in
-    let later : let a = c.args in (c.subfield-pos.result + span_from (flags_of 7 a.s.now a.at) 4 4 ≤ length a.s.now) × (a.base + 33 ≤ SLOTS) =
+    let span : (c.take-part.result + span_from (flags_of 7 c.args.s.now c.in-Some.at) 1 7 ≤ length c.args.s.now) × (c.args.base + 33 ≤ SLOTS) =
+    (one_room is c.args.s.now c.in-Some.at refl (omega arith) c.args.base c.take-part.ensures (rw c.in-Some.is at c.requires.1) tt, c.requires.0) in
+    let later : let a = c.args in (c.subfield-pos.result + span_from (flags_of 7 a.s.now c.in-Some.at) 4 4 ≤ length a.s.now) × (a.base + 33 ≤ SLOTS) =
     let g = span in (omega (arith, g), g.1) in
-    let g = later in (omega arith, omega (arith, g), omega (arith, g))
+    let g = later in (omega (arith, g), omega (arith, g))
 
 pub subfield-em1-requires : goal.subfield-em1-requires
 unfolding span_from count cut total placed_at placed placed_in placed_from lines_of items cat048 cat021 cat007 flags_under lines_from
 subfield-em1-requires c =
-    let span : (c.take-part.result + span_from (flags_of 7 c.args.s.now c.args.at) 1 7 ≤ length c.args.s.now) × (c.args.base + 33 ≤ SLOTS) =
-    (one_room is c.args.s.now c.args.at c.if-there.true c.requires.0 c.args.base c.take-part.ensures c.requires.2 tt, c.requires.1) in
-    let later : let a = c.args in (c.subfield-pos.result + span_from (flags_of 7 a.s.now a.at) 4 4 ≤ length a.s.now) × (a.base + 33 ≤ SLOTS) =
+    let span : (c.take-part.result + span_from (flags_of 7 c.args.s.now c.in-Some.at) 1 7 ≤ length c.args.s.now) × (c.args.base + 33 ≤ SLOTS) =
+    (one_room is c.args.s.now c.in-Some.at refl (omega arith) c.args.base c.take-part.ensures (rw c.in-Some.is at c.requires.1) tt, c.requires.0) in
+    let later : let a = c.args in (c.subfield-pos.result + span_from (flags_of 7 a.s.now c.in-Some.at) 4 4 ≤ length a.s.now) × (a.base + 33 ≤ SLOTS) =
     let g = span in (omega (arith, g), g.1) in
-    let g = later in (omega arith, omega (arith, g), omega (arith, g))
+    let g = later in (omega (arith, g), omega (arith, g))
 
 pub subfield-tos-requires : goal.subfield-tos-requires
 unfolding span_from count cut total placed_at placed placed_in placed_from lines_of items cat048 cat021 cat007 flags_under lines_from
 subfield-tos-requires c =
-    let span : (c.take-part.result + span_from (flags_of 7 c.args.s.now c.args.at) 1 7 ≤ length c.args.s.now) × (c.args.base + 33 ≤ SLOTS) =
-    (one_room is c.args.s.now c.args.at c.if-there.true c.requires.0 c.args.base c.take-part.ensures c.requires.2 tt, c.requires.1) in
-    let later : let a = c.args in (c.subfield-pos.result + span_from (flags_of 7 a.s.now a.at) 4 4 ≤ length a.s.now) × (a.base + 33 ≤ SLOTS) =
+    let span : (c.take-part.result + span_from (flags_of 7 c.args.s.now c.in-Some.at) 1 7 ≤ length c.args.s.now) × (c.args.base + 33 ≤ SLOTS) =
+    (one_room is c.args.s.now c.in-Some.at refl (omega arith) c.args.base c.take-part.ensures (rw c.in-Some.is at c.requires.1) tt, c.requires.0) in
+    let later : let a = c.args in (c.subfield-pos.result + span_from (flags_of 7 a.s.now c.in-Some.at) 4 4 ≤ length a.s.now) × (a.base + 33 ≤ SLOTS) =
     let g = span in (omega (arith, g), g.1) in
-    let g = later in (omega arith, omega (arith, g), omega (arith, g))
+    let g = later in (omega (arith, g), omega (arith, g))
 
 pub subfield-requires : goal.subfield-requires
 unfolding span_from count cut total placed_at placed placed_in placed_from lines_of items cat048 cat021 cat007 flags_under lines_from
 subfield-requires c =
-    let span : (c.take-part.result + span_from (flags_of 7 c.args.s.now c.args.at) 1 7 ≤ length c.args.s.now) × (c.args.base + 33 ≤ SLOTS) =
-    (one_room is c.args.s.now c.args.at c.if-there.true c.requires.0 c.args.base c.take-part.ensures c.requires.2 tt, c.requires.1) in
-    let later : let a = c.args in (c.subfield-pos.result + span_from (flags_of 7 a.s.now a.at) 4 4 ≤ length a.s.now) × (a.base + 33 ≤ SLOTS) =
+    let span : (c.take-part.result + span_from (flags_of 7 c.args.s.now c.in-Some.at) 1 7 ≤ length c.args.s.now) × (c.args.base + 33 ≤ SLOTS) =
+    (one_room is c.args.s.now c.in-Some.at refl (omega arith) c.args.base c.take-part.ensures (rw c.in-Some.is at c.requires.1) tt, c.requires.0) in
+    let later : let a = c.args in (c.subfield-pos.result + span_from (flags_of 7 a.s.now c.in-Some.at) 4 4 ≤ length a.s.now) × (a.base + 33 ≤ SLOTS) =
     let g = span in (omega (arith, g), g.1) in
-    let g = later in (omega arith, omega (arith, g), omega (arith, g))
+    let g = later in (omega (arith, g), omega (arith, g))
 
-pub shape_of-numbers-then-there : goal.shape_of-numbers-then-there
+pub returns-in_default : goal.returns-in_default
 unfolding span_from count cut total placed_at placed placed_in placed_from lines_of items cat048 cat021 cat007
-shape_of-numbers-then-there c = (returns-then-there c).taken.long
-
-pub returns : goal.returns
-unfolding span_from count cut total placed_at placed placed_in placed_from lines_of items cat048 cat021 cat007
-returns c = let a = c.args in item_absent 0 a.s.now a.at c.if-there.false a.numbers.now a.base
+returns-in_default c = let a = c.args in item_absent 0 a.s.now (place a.start) (ap is_there c.in_default.is) a.numbers.now a.base

@@ -11,15 +11,15 @@ use Rattle.reader.proofs.taking.subfield.Goals as goal
 pub take-requires : goal.take-requires
 take-requires c =
     let a = c.args in
-    let g = subst (λ t. a.a + pick t (line_at a.b).octets 0 ≤ length a.s.now) (sym c.present.ensures ∙ c.if-present.true) c.requires.2 in
-    (omega (arith, g), c.requires.1, c.requires.0)
+    let g = subst (λ t. a.a + pick t (line_at a.b).octets 0 ≤ length a.s.now) (sym c.present.ensures ∙ c.if-present.true) c.requires.1 in
+    (omega (arith, g), c.requires.0)
 
 pub returns-then-present : goal.returns-then-present
 returns-then-present c =
     let a = c.args in
-    opt_there a.numbers.now c.requires.0 (a.base + first_at a.b) a.b a.s.now a.a (sym c.present.ensures ∙ c.if-present.true) c.take.ensures
+    opt_there a.numbers.now (omega arith) (a.base + first_at a.b) a.b a.s.now a.a (sym c.present.ensures ∙ c.if-present.true) c.take.ensures
 
 pub returns : goal.returns
 returns c =
     let a = c.args in
-    opt_absent a.numbers.now c.requires.0 (a.base + first_at a.b) a.b a.s.now a.a (sym c.present.ensures ∙ c.if-present.false)
+    opt_absent a.numbers.now (omega arith) (a.base + first_at a.b) a.b a.s.now a.a (sym c.present.ensures ∙ c.if-present.false)

@@ -1,31 +1,32 @@
--- `sheet::items::span` meets its contract: no octet passed is a space. Assumes nothing.
+-- `sheet::items::span` meets its contract: no octet before the space is one. Assumes nothing.
+use mathlib.Core.Path.{◌≡◌}
+use Prim.Native.Nat.{ℕ, ◌<◌, zero-le}
 use native.Mathlib.Omega.{arith}
-use Rattle.sheet.specs.Laws.Lines.{span_end, span-found, span_on}
+use borrow.Author.Tests.{tests}
+use lib.ListN.{length}
+use Rattle.std.specs.List.{HoldsAt, AllWithin}
+use Rattle.std.proofs.Common.{rules}
+use Rattle.std.proofs.lemmas.Iterator.{IsFirst-from_position, YieldsList-from_slice}
+use Rattle.sheet.specs.Laws.Lines.{span_end, span-found, span_past}
 use Rattle.sheet.proofs.items.span.Goals as goal
 
-pub loop-i-init : goal.loop-i-init
-loop-i-init c = (omega arith, omega arith)
+abbrev Space : ℕ → Type 0
+Space o = o ≡ 32
 
-pub bounds-keys-i : goal.bounds-keys-i
-bounds-keys-i c = omega arith
+abbrev Other : ℕ → Type 0
+Other o = o ≡ 32 → ⊥
 
-pub overflow_add-result : goal.overflow_add-result
-overflow_add-result c = omega arith
+pub returns-in-Some : goal.returns-in-Some
+returns-in-Some c =
+    let t = c.args.keys.now in
+    let i = c.in-Some.i in
+    let found = IsFirst-from_position _ _ _ Space Other c.position.ensures.ran (YieldsList-from_slice t cc) (λ x q k. search (rules, tests)) (λ x q k. search (rules, tests)) in
+    let first : (i < length t) × HoldsAt Space t i × AllWithin Other t 0 i = rw c.in-Some.is at found in
+    (span-found t i first.0 (span_past t i (omega (arith, first.0)) (λ k h. first.2 k 0 zero-le h)) (first.1 0), omega (arith, first.0))
 
-pub returns-then-keys-i-eq32 : goal.returns-then-keys-i-eq32
-returns-then-keys-i-eq32 c =
-    (span-found c.args.keys.now c.loop-i.i (omega arith) c.loop-i.invariant.1 c.if-keys-i-eq32.true, omega arith)
-
-pub overflow_add-i : goal.overflow_add-i
-overflow_add-i c = omega arith
-
-pub loop-i-smaller : goal.loop-i-smaller
-loop-i-smaller c = omega arith
-
-pub loop-i-preserved : goal.loop-i-preserved
-loop-i-preserved c =
-    (omega arith, span_on c.args.keys.now c.loop-i.i (omega arith) c.loop-i.invariant.1 c.if-keys-i-eq32.false)
-
-pub returns : goal.returns
-returns c =
-    (span_end c.args.keys.now c.loop-i.i (omega arith) c.loop-i.invariant.1, c.loop-i.invariant.0)
+pub returns-in-None : goal.returns-in-None
+returns-in-None c =
+    let t = c.args.keys.now in
+    let found = IsFirst-from_position _ _ _ Space Other c.position.ensures.ran (YieldsList-from_slice t cc) (λ x q k. search (rules, tests)) (λ x q k. search (rules, tests)) in
+    let none : AllWithin Other t 0 (length t) = rw c.in-None.is at found in
+    (span_end t (length t) (omega arith) (span_past t (length t) (omega arith) (λ k h. none k 0 zero-le h)), omega arith)

@@ -1,14 +1,19 @@
--- `sheet::numbers::altitude_lines` meets its contract. Assumes nothing.
-use borrow.Author.Rules.{sfits_of}
+-- `sheet::numbers::altitude_lines` meets its contract: one line behind the other. Assumes nothing.
+use mathlib.Core.Path.{◌≡◌}
+use borrow.Author.Rules.{rules}
 use mir.Syntax.{w32}
-use mir.Facts.{to_z-of_z}
+use mir.Val.{to_z, of_z}
 use Rattle.papers.specs.Names.{text}
-use Rattle.text.specs.Laws.Typing.{types_behind}
-use Rattle.sheet.specs.Laws.Numbers.{altitude_key}
+use Rattle.scope.specs.Sheet.{signed_decimal, number_text}
+use Rattle.text.specs.Laws.Typing.{types_behind, types_key}
 use Rattle.sheet.proofs.numbers.altitude_lines.Goals as goal
 
 pub returns : goal.returns
+unfolding number_text
 returns c =
-    let a = c.args in
-    types_behind (altitude_key a.name.now (text ".RES") a.a.res (to_z-of_z {w = w32} {z = a.a.res} (sfits_of c.struct_told-1.given.0.1)) c.number-next.ensures)
-    (altitude_key a.name.now (text ".GA") a.a.ga (to_z-of_z {w = w32} {z = a.a.ga} (sfits_of c.struct_told-1.given.1.0.1)) c.number.ensures)
+    let name = c.args.name.now in
+    let a = c.args.a in
+    let res : to_z w32 (of_z w32 a.res) ≡ a.res = search rules in
+    let ga : to_z w32 (of_z w32 a.ga) ≡ a.ga = search rules in
+    types_behind (types_key name (text ".RES") (signed_decimal a.res) c.word.ensures (rw res at c.pair.ensures))
+    (types_key name (text ".GA") (signed_decimal a.ga) c.word-2.ensures (rw ga at c.pair-2.ensures))

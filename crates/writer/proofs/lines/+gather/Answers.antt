@@ -1,13 +1,14 @@
 -- `writer::lines::gather` meets its contract: one law at each way out. Assumes nothing.
 use mathlib.Core.Path.{◌≡◌, ap, ◌∙◌}
-use Prim.Native.Nat.{ℕ, ◌^◌, ◌%◌, ◌≤◌, ◌<◌}
+use Prim.Native.Nat.{ℕ, ◌+◌, ◌^◌, ◌%◌, ◌≤◌, ◌<◌}
 use native.Mathlib.Nat.{lt_of_lt_of_le}
 use native.Mathlib.Omega.{arith}
-use borrow.Author.Rules.{rules, sfits_of}
+use borrow.Author.Rules.{sfits_of}
 use lib.Pow.{pow_mono}
+use lib.IntN.{ℤ}
 use mir.Syntax.{w32}
+use mir.Val.{SFits, to_z, of_z}
 use mir.Facts.{to_z-of_z, Fits-of_lt}
-use Rattle.layout.specs.Record.{number_at}
 use Rattle.writer.specs.Digits.{low_bits}
 use Rattle.writer.specs.Laws.Digits.{gather_none, first_bits, gather_spare, gather_on, gather_sum, gather_product}
 use Rattle.writer.proofs.lines.+gather.Goals as goal
@@ -16,15 +17,19 @@ use Rattle.writer.proofs.lines.+gather.Goals as goal
 under : {x bits : ℕ} → bits ≤ 48 → x < 2 ^ bits → x < 18_446_744_073_709_551_616
 under {x} {bits} h k = lt_of_lt_of_le k (pow_mono {i = bits} {j = 64} (omega arith))
 
+-- what was taken from a slot is a number of the record
+digit_is : (w : ℕ) {d : ℕ} {z v : ℤ} → SFits w32 z → d ≡ low_bits w (to_z w32 (of_z w32 z)) → z ≡ v → d ≡ low_bits w v
+digit_is w f e ev = e ∙ ap (low_bits w) (to_z-of_z f ∙ ev)
+
 pub returns-then-left-eq0 : goal.returns-then-left-eq0
 returns-then-left-eq0 t c =
     let a = c.args in
-    gather_none a.code a.left a.numbers.now a.slot c.if-left-eq0.true
+    gather_none a.code a.left a.slots.numbers.now (a.slots.base + a.slot) c.if-left-eq0.true
 
 pub overflow_sub-next : goal.overflow_sub-next
 overflow_sub-next t c =
     let a = c.args in
-    (first_bits a.code a.left c.if-left-eq0.false a.numbers.now a.slot c.requires.0).0
+    (first_bits a.code a.left c.if-left-eq0.false a.slots.numbers.now (a.slots.base + a.slot) c.requires.0).0
 
 pub overflow_sub-left : goal.overflow_sub-left
 overflow_sub-left t c = omega arith
@@ -33,15 +38,15 @@ pub gather-requires : goal.gather-requires
 gather-requires t c =
     let a = c.args in
     let g = c.requires in
-    (omega arith, ((first_bits a.code a.left c.if-left-eq0.false a.numbers.now a.slot g.0).1, omega (arith, g), omega (arith, g)))
+    (omega arith, ((first_bits a.code a.left c.if-left-eq0.false a.slots.numbers.now (a.slots.base + a.slot) g.0).1, omega (arith, g), omega (arith, g)))
 
 pub returns-then-code-eq0 : goal.returns-then-code-eq0
 returns-then-code-eq0 t c =
     let a = c.args in
-    gather_spare a.code a.left c.if-left-eq0.false a.numbers.now a.slot c.requires.0 c.if-code-eq0.true c.gather.ensures
+    gather_spare a.code a.left c.if-left-eq0.false a.slots.numbers.now (a.slots.base + a.slot) c.requires.0 c.if-code-eq0.true c.gather.ensures
 
-pub number_at-requires : goal.number_at-requires
-number_at-requires t c = search rules
+pub number-requires : goal.number-requires
+number-requires t c = omega arith
 
 pub digit-d-requires : goal.digit-d-requires
 digit-d-requires t c = omega arith
@@ -58,7 +63,7 @@ pub gather-low-requires : goal.gather-low-requires
 gather-low-requires t c =
     let a = c.args in
     let g = c.requires in
-    (omega arith, ((first_bits a.code a.left c.if-left-eq0.false a.numbers.now a.slot g.0).1, omega (arith, g), omega (arith, g, c.if-left-eq0.false)))
+    (omega arith, ((first_bits a.code a.left c.if-left-eq0.false a.slots.numbers.now (a.slots.base + a.slot) g.0).1, omega (arith, g), omega (arith, g, c.if-left-eq0.false)))
 
 pub power-requires : goal.power-requires
 power-requires t c =
@@ -67,21 +72,18 @@ power-requires t c =
 
 pub overflow_mul-result : goal.overflow_mul-result
 overflow_mul-result t c =
-    let digit_is : c.digit-d.result ≡ low_bits (c.args.code % 256 % 32) (number_at c.args.numbers.now c.args.slot) =
-    c.digit-d.ensures ∙ ap (low_bits (c.args.code % 256 % 32)) (to_z-of_z {w = w32} {z = c.number_at.result} (sfits_of c.number_at.type_inv) ∙ c.number_at.ensures) in
     let a = c.args in
-    Fits-of_lt (under c.requires.1 (gather_product a.code a.left c.if-left-eq0.false a.numbers.now a.slot c.requires.0 c.if-code-eq0.false digit_is c.power.ensures))
+    let d = digit_is (a.code % 256 % 32) (sfits_of {w = w32} {z = c.number.result} c.number.type_inv) c.digit-d.ensures c.number.ensures in
+    Fits-of_lt (under c.requires.1 (gather_product a.code a.left c.if-left-eq0.false a.slots.numbers.now (a.slots.base + a.slot) c.requires.0 c.if-code-eq0.false d c.power.ensures))
 
 pub overflow_add-result : goal.overflow_add-result
 overflow_add-result t c =
-    let digit_is : c.digit-d.result ≡ low_bits (c.args.code % 256 % 32) (number_at c.args.numbers.now c.args.slot) =
-    c.digit-d.ensures ∙ ap (low_bits (c.args.code % 256 % 32)) (to_z-of_z {w = w32} {z = c.number_at.result} (sfits_of c.number_at.type_inv) ∙ c.number_at.ensures) in
     let a = c.args in
-    Fits-of_lt (under c.requires.1 (gather_sum a.code a.left c.if-left-eq0.false a.numbers.now a.slot c.requires.0 c.if-code-eq0.false digit_is c.power.ensures c.gather-low.ensures))
+    let d = digit_is (a.code % 256 % 32) (sfits_of {w = w32} {z = c.number.result} c.number.type_inv) c.digit-d.ensures c.number.ensures in
+    Fits-of_lt (under c.requires.1 (gather_sum a.code a.left c.if-left-eq0.false a.slots.numbers.now (a.slots.base + a.slot) c.requires.0 c.if-code-eq0.false d c.power.ensures (omega arith) c.gather-low.ensures))
 
 pub returns : goal.returns
 returns t c =
-    let digit_is : c.digit-d.result ≡ low_bits (c.args.code % 256 % 32) (number_at c.args.numbers.now c.args.slot) =
-    c.digit-d.ensures ∙ ap (low_bits (c.args.code % 256 % 32)) (to_z-of_z {w = w32} {z = c.number_at.result} (sfits_of c.number_at.type_inv) ∙ c.number_at.ensures) in
     let a = c.args in
-    gather_on a.code a.left c.if-left-eq0.false a.numbers.now a.slot c.requires.0 c.if-code-eq0.false digit_is c.power.ensures c.gather-low.ensures
+    let d = digit_is (a.code % 256 % 32) (sfits_of {w = w32} {z = c.number.result} c.number.type_inv) c.digit-d.ensures c.number.ensures in
+    gather_on a.code a.left c.if-left-eq0.false a.slots.numbers.now (a.slots.base + a.slot) c.requires.0 c.if-code-eq0.false d c.power.ensures (omega arith) c.gather-low.ensures

@@ -1,0 +1,8 @@
+-- `requests::Asked::choose` meets its contract: each word by its kind, and the choice. Assumes nothing.
+use Rattle.requests.specs.Laws.Requests.{word_in, choose_said}
+use Rattle.requests.proofs.Asked.choose.Goals as goal
+
+pub returns : goal.returns
+returns c =
+    let a = c.args.self.now in
+    choose_said (word_in a.line.now a.starts.now) c.small-cat.ensures c.octets-base.ensures c.octets-correction.ensures c.small-item.ensures (rw (c.choose_answer-choice.ensures, c.choose-part.ensures.result_value) at c.choice_text.ensures)

@@ -1,0 +1,8 @@
+-- `requests::Asked::read` meets its contract: each word by its kind, and the reading. Assumes nothing.
+use Rattle.requests.specs.Laws.Requests.{word_in, read_said}
+use Rattle.requests.proofs.Asked.read.Goals as goal
+
+pub returns : goal.returns
+returns c =
+    let a = c.args.self.now in
+    read_said (word_in a.line.now a.starts.now) c.small-cat.ensures c.octets-field.ensures c.read.ensures c.reading_text.ensures

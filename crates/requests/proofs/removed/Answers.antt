@@ -1,6 +1,0 @@
--- `requests::removed` meets its contract: what the operation left is its outcome. Assumes nothing.
-use Rattle.replies.specs.Laws.Typed.{types_left}
-use Rattle.requests.proofs.removed.Goals as goal
-
-pub returns : goal.returns
-returns c = types_left c.remove-answer.ensures c.left.ensures

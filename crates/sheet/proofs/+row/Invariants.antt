@@ -1,4 +1,0 @@
-use Rattle.sheet.proofs.+row.Given as goal
-
-abbrev pub decreases-row : goal.decreases-row
-decreases-row l = l.left

@@ -1,4 +1,0 @@
-use Rattle.walk.proofs.+word.Given as goal
-
-abbrev pub decreases-word : goal.decreases-word
-decreases-word l = l.k

@@ -1,4 +1,0 @@
-use Rattle.writer.proofs.+chain.Given as goal
-
-abbrev pub decreases-chain : goal.decreases-chain
-decreases-chain l = l.left
