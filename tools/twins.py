@@ -9,6 +9,8 @@ import sys
 
 KEPT = {"if", "else", "while", "for", "in", "let", "mut", "return", "match", "as"}
 TOKEN = re.compile(r"""b?"(?:[^"\\]|\\.)*"|b?'(?:[^'\\]|\\.)+'|[A-Za-z_][A-Za-z_0-9:]*|\d[\d_]*|[^\sA-Za-z_0-9]""")
+BRACE = re.compile(r"""b?"(?:[^"\\]|\\.)*"|b?'(?:[^'\\]|\\.)'|[{}]""")
+SIGNATURE = re.compile(r"\[(?:[^\[\]]|\[[^\[\]]*\])*\]|\b(requires|ensures)\b[^{};]*\{|[{;]")
 
 
 def git(*words):
@@ -22,13 +24,26 @@ def texts(commit):
     return {it: re.sub(r"//.*", "", git("show", f"{commit}:{it}") if commit else open(it).read()) for it in files}
 
 
+def closed(text, at):
+    """The place behind the brace that closes the one at a place; a brace in a word counts for none."""
+    depth = 0
+    for it in BRACE.finditer(text, at):
+        depth += {"{": 1, "}": -1}.get(it[0], 0)
+        if depth == 0:
+            return it.end()
+    return len(text)
+
+
 def functions(text):
-    """(name, body) of each function."""
-    for head in re.finditer(r'^( *)(pub )?(?:extern "C" )?fn ([a-z_0-9]+)', text, re.M):
-        start = text.find("\n" + head[1] + "{", head.start())
-        end = text.find("\n" + head[1] + "}", start)
-        if 0 <= start < end:
-            yield head[3], text[start + 2 + len(head[1]):end]
+    """(name, body) of each function that has one, which opens behind its signature and the braces of its clauses."""
+    for head in re.finditer(r'^ *(?:pub )?(?:const )?(?:extern "C" )?fn ([a-z_0-9]+)', text, re.M):
+        at = head.end()
+        while found := SIGNATURE.search(text, at):
+            at = closed(text, found.end() - 1) if found[1] else found.end()
+            if found[0] == "{":
+                yield head[1], text[at:closed(text, at - 1) - 1]
+            if found[0] in "{;":
+                break
 
 
 def shape(body):

@@ -32,7 +32,7 @@ line_after room (o ∷ s) n line = pick (eqb o 10) line (line_after room s (more
 abbrev pub Joins : List ℕ → ℕ → ℕ → List ℕ → Joined → List ℕ → Type 0
 Joins octets from n line r line' = (r ≡ join_of (length line) (drop from octets) n from) × (line' ≡ line_after (length line) (drop from octets) n line)
 
--- what `join` says of so many octets, of which so many are held then: where the line ended, or that all are taken
+-- what `join` says where `all` is the place behind all octets, so many being held then: where the line ended, or that all are taken
 abbrev pub joined : ℕ → ℕ → Option ℕ → Joined
 joined all held None = record { at = all; held = held; ended = false }
 joined all held (Some at) = record { at = at; held = held; ended = true }

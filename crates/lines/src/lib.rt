@@ -3,7 +3,7 @@
 // reads. Stands on nothing.
 #![tactic(auto)]
 
-ghost use Rattle.std.specs.Prelude.{◌≡◌, length};
+ghost use Rattle.std.specs.Prelude.{◌≡◌, max, length};
 ghost use Rattle.lines.specs.Joining.{Keeps, Joins, joined};
 
 // The room for a line, one octet more than a line of the protocol may have: one that is too long is held so far, and so is seen to be too long.
@@ -28,16 +28,18 @@ impl Line<'_> {
         }
     }
 
-    // Goes on with the line up to its line feed, or to the end of the octets; how many octets are taken where the line ended.
-    pub fn join(&mut self, octets: &[u8]) -> Option<usize>
+    // Goes on with the line from a place of the octets on, up to its line feed or to the end of the octets; the place behind the line feed, where the line
+    // ended.
+    pub fn join(&mut self, octets: &[u8], from: usize) -> Option<usize>
         ensures same { self.new.octets.ghost_name ≡ self.old.octets.ghost_name }
-        ensures joined { Joins octets.now 0 self.old.held self.old.octets.now (joined (length octets.now) self.new.held result) self.new.octets.now }
+        ensures joined { Joins octets.now from self.old.held self.old.octets.now (joined (max from (length octets.now)) self.new.held result) self.new.octets.now }
     {
-        for (i, o) in octets.iter().enumerate() {
-            if *o == b'\n' {
+        for i in from..octets.len() {
+            let o = octets[i];
+            if o == b'\n' {
                 return Some(i + 1);
             }
-            self.keep(*o);
+            self.keep(o);
         }
         None
     }

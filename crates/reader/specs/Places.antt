@@ -1,17 +1,15 @@
 -- A row of items by their places alone, and the survey of a field by it.
-use Rattle.std.specs.Prelude.{◌≡◌, Bool, List, [], ◌∷◌, ◌++◌, ℕ, zero, suc, ◌+◌, ◌-◌, ◌/◌, ◌%◌, ◌<◌, leb, eqb, replicate}
+use Rattle.std.specs.Prelude.{◌≡◌, Bool, List, [], ◌∷◌, ◌++◌, ℕ, zero, suc, ◌+◌, ◌-◌, eqb, replicate, Result, Ok, Err}
 use Rattle.codec.specs.Pick.{pick}
 use Rattle.codec.specs.Codec.{Res, got, bad}
 use Rattle.codec.specs.Line.{Held}
 use Rattle.codec.specs.Field.{first_flag, next_flags}
 use Rattle.codec.specs.Frame.{Outcome, accepted, refused}
-use Rattle.layout.specs.declared.Reason.{Reason}
-use Rattle.layout.specs.declared.Reason.TheVariants.{Cut, Spare, Chain, Range}
-use Rattle.layout.specs.declared.Refusal.{Refusal}
-use Rattle.layout.specs.Answer.{Accepted, Refused, Surveyed, reason_number}
+use Rattle.layout.specs.Answer.{Accepted, Refused, Surveyed}
+use Rattle.reader.specs.declared.lines.Stop.{Stop}
 use Rattle.reader.specs.declared.places.Places.{Places}
 use Rattle.reader.specs.Rows.{place_run, Found}
-use Rattle.reader.specs.Seen.{Ends}
+use Rattle.reader.specs.Seen.{Ends, step_number}
 
 -- the places behind some items, and then behind one more, if it is there
 abbrev pub behind_all : List ℕ → Res Held → Res (List ℕ)
@@ -32,10 +30,14 @@ unfoldable pub places_from : ℕ → ℕ → List ℕ → List ℕ → Res (List
 unfolding places_on
 places_from k n ds xs = places_on k n ds xs (got (2 ∷ []) 2)
 
--- what the code of a row of n items gives: its step, and, where it ends within an octet's range, the places as octets, zeros behind them
-pub record RowSeen (x : Res (List ℕ)) (n : ℕ) (r : Places) : Type 0 where
-  pub step : Ends x r.0
-  pub places : (ps : List ℕ) (m : ℕ) → x ≡ got ps m → m < 256 → r.1 ≡ ps ++ replicate (8 - n) 0
+-- what the code of a row of n items gives: its step, and where it ends the places, zeros behind them
+abbrev pub end_of : Result Places Stop → Result ℕ Stop
+end_of (Ok p) = Ok p.0
+end_of (Err e) = Err e
+
+pub record RowSeen (x : Res (List ℕ)) (n : ℕ) (r : Result Places Stop) : Type 0 where
+  pub step : Ends x (step_number (end_of r))
+  pub places : (p : Places) → r ≡ Ok p → (ps : List ℕ) (m : ℕ) → x ≡ got ps m → p.1 ≡ ps ++ replicate (8 - n) 0
 
 -- the survey of a field of n items and len octets
 abbrev pub unplaced_of : ℕ → ℕ → Surveyed
@@ -45,15 +47,6 @@ abbrev pub surveyed_by : ℕ → ℕ → ℕ → Outcome Found → Surveyed
 surveyed_by n len ind (accepted f) = record { answer = Accepted len; items = ind; starts = (2 ∷ f.1) ++ replicate (8 - n) 0 }
 surveyed_by n len ind (refused e p) = unplaced_of e p
 
--- the refusal that a step is, as the code has it: an item is refused by 5, 6, 7 or 8
-abbrev pub item_reason : ℕ → Reason
-item_reason n = pick (eqb n 5) Cut (pick (eqb n 6) Spare (pick (eqb n 7) Chain Range))
-
-abbrev pub refusal_of : ℕ → Refusal
-refusal_of r = record { reason = item_reason (r / 65_536); place = r % 65_536 }
-
--- and the survey by the row's step
+-- and the survey by the row
 unfoldable pub closed_of : Places → ℕ → ℕ → Surveyed
-closed_of r ind len =
-    pick (leb 65_536 r.0) (unplaced_of (reason_number (refusal_of r.0).reason) (refusal_of r.0).place)
-    (pick (eqb r.0 len) (record { answer = Accepted r.0; items = ind; starts = r.1 }) (unplaced_of 9 r.0))
+closed_of r ind len = pick (eqb r.0 len) (record { answer = Accepted r.0; items = ind; starts = r.1 }) (unplaced_of 9 r.0)

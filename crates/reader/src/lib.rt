@@ -12,7 +12,7 @@ ghost use Rattle.scope.specs.Reading.{read_of, ReadsInto};
 ghost use Rattle.scope.specs.Survey.{survey_of};
 ghost use Rattle.reader.specs.Fields.{items_in};
 ghost use Rattle.layout.specs.Answer.{by_number, reading_by_number, survey_by_number};
-ghost use Rattle.reader.specs.Places.{refusal_of, closed_of, surveyed_by};
+ghost use Rattle.reader.specs.Places.{closed_of, surveyed_by};
 
 mod lines;
 mod numbers;
@@ -21,30 +21,13 @@ mod rows;
 mod taking;
 
 use layout::{Answer, Reading, Reason, Record, Refusal, SLOTS, Survey};
-use lines::BAD;
 use places::Places;
 
-// The refusal that a step is: an item is refused for one of four reasons.
-fn refusal(step: usize) -> Refusal
-    ensures { result ≡ refusal_of step }
-{
-    let reason = match step / BAD {
-        5 => Reason::Cut,
-        6 => Reason::Spare,
-        7 => Reason::Chain,
-        _ => Reason::Range,
-    };
-    reason.at(step % BAD)
-}
-
-// The step of a row as the survey of a field of len octets: nothing may be left behind its items.
+// The row of a field of len octets as its survey: nothing may be left behind its items. The clause says too that its end is an octet, which its caller needs.
 fn closed(row: Places, ind: u8, len: usize) -> Result<Survey, Refusal>
-    ensures { survey_by_number result ≡ closed_of row ind len }
+    ensures { (survey_by_number result ≡ closed_of row ind len) × (row.0 < 256) }
 {
-    let end = row.0;
-    if BAD <= end {
-        return Err(refusal(end));
-    }
+    let end = leaves::wide(row.0);
     if end != len {
         return Err(Reason::Left.at(end));
     }
@@ -62,7 +45,7 @@ fn items(s: &[u8], cat: u8, ind: u8) -> Result<Survey, Refusal>
     ensures { survey_by_number result ≡ surveyed_by (items_of cat) (length s.now) ind (items_in cat ind s.now) }
 {
     if ind & layout::spare_of(cat) == 0 {
-        let row = places::row(s, cat, ind);
+        let row = places::row(s, cat, ind)?;
         return closed(row, ind, s.len());
     }
     Err(Reason::Indicator.at(1))
@@ -103,7 +86,9 @@ pub fn is_item(cat: u8, i: usize, octets: &[u8]) -> bool
     if layout::is_known(cat) {
         if i < layout::items_of(cat) {
             let spot = spots::spot_at(spots::spot_of(cat) + i);
-            return places::item(octets, leaves::wide(spot.0)) == n;
+            if let Ok(end) = places::item(octets, leaves::wide(spot.0)) {
+                return usize::from(end) == n;
+            }
         }
     }
     false

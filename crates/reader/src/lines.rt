@@ -4,25 +4,31 @@ ghost use Rattle.std.specs.Prelude.{◌≡◌, ◌+◌, ◌-◌, ◌*◌, ◌^�
 ghost use Rattle.codec.specs.Signed.{to_signed};
 ghost use Rattle.codec.specs.Radix.{join, eights};
 ghost use Rattle.codec.specs.Line.{to_num, in_limits};
-ghost use Rattle.layout.specs.Answer.{reason_number};
 ghost use Rattle.lengths.specs.Lines.{kind_of, pieces_from, narrow};
 ghost use Rattle.reader.specs.Numbers.{nums_at, piece_fits};
-ghost use Rattle.reader.specs.Seen.{Ends};
+ghost use Rattle.reader.specs.Seen.{Ends, step_number};
 ghost use Rattle.reader.specs.Steps.{line_run};
 
-use layout::Reason;
+use layout::{Reason, Refusal};
 
-// In a step that is one number: a refusal's number counts so much, and its place is below.
-pub const BAD: usize = 65536;
-
-// A refusal as a step.
-#[inline(always)]
-pub fn refused(reason: Reason, at: usize) -> usize
-    requires { at < 65_536 }
-    ensures { result ≡ reason_number reason * 65_536 + at }
-{
-    usize::from(u8::from(reason)) * BAD + at
+// Why an item is refused, and at which of the few octets of a field.
+#[derive(Clone, Copy)]
+pub struct Stop {
+    pub reason: Reason,
+    pub at: u8,
 }
+
+// The law says too that the place is an octet, which a caller of `?` needs.
+impl From<Stop> for Refusal {
+    ghost from_gives = { λ stop refusal. (refusal ≡ record { reason = stop.reason; place = stop.at }) × (stop.at < 256) };
+
+    fn from(stop: Stop) -> Refusal {
+        stop.reason.at(usize::from(stop.at))
+    }
+}
+
+// What was tried at a place: the next place, or the refusal.
+pub type Step = Result<u8, Stop>;
 
 // k octets from a place on, as one number.
 pub fn octets(s: &[u8], at: usize, k: usize) -> u64
@@ -115,22 +121,32 @@ fn short(len: usize, at: usize, k: usize) -> bool
     len < at + k
 }
 
-// Line b at a place of the field: the next place, or the refusal.
-pub fn seen(s: &[u8], at: usize, b: usize) -> usize
-    requires { (length s.now < 65_536) × (at < 65_536) }
-    ensures { Ends (line_run b s.now at) result }
+// Line B at a place of the field. Its number is a parameter of the type, so that its row of the table is a constant.
+pub fn seen<const B: usize>(s: &[u8], at: u8) -> Step
+    requires { length s.now < 256 }
+    ensures { Ends (line_run B s.now at) (step_number result) }
 {
-    let format = lengths::format_of(b);
+    let format = lengths::format_of(B);
     let k = format.octets;
-    if short(s.len(), at, k) {
-        return refused(Reason::Cut, at);
+    let from = usize::from(at);
+    if short(s.len(), from, k) {
+        return Err(Stop {
+            reason: Reason::Cut,
+            at: at,
+        });
     }
-    let n = octets(s, at, k);
+    let n = octets(s, from, k);
     if n & format.spare == 0 {
         if within(n, (8 * k) as u64, format.pieces, format.runs) {
-            return at + k;
+            return Ok((from + k) as u8);
         }
-        return refused(Reason::Range, at);
+        return Err(Stop {
+            reason: Reason::Range,
+            at: at,
+        });
     }
-    refused(Reason::Spare, at)
+    Err(Stop {
+        reason: Reason::Spare,
+        at: at,
+    })
 }

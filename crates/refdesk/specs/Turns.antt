@@ -1,7 +1,8 @@
 -- What is held of the input between two reads, and the laws of the loop over the octets of a read.
-use Rattle.std.specs.Prelude.{◌≡◌, Bool, true, false, Option, None, Some, Result, OnOk, ℕ, ◌+◌, ◌-◌, ◌≤◌, ◌<◌, length}
+use Rattle.std.specs.Prelude.{◌≡◌, Bool, true, false, Option, None, Some, Result, OnOk, ℕ, ◌+◌, ◌-◌, ◌≤◌, ◌<◌, max, length}
 use Rattle.std.proofs.Math.Path.{refl, sym, ap}
-use Rattle.std.proofs.Common.{◌∙◌, arith, subst, le_refl, take, take_all, drop-drop}
+use Rattle.std.proofs.Common.{◌∙◌, arith, subst, drop-drop}
+use Rattle.std.proofs.Math.Nat.{le-max_right}
 use mathlib.Core.List.{List, []}
 use Rattle.std.proofs.Math.ListN.{drop, length-drop, drop_of_length-le}
 use Rattle.lines.specs.Lines.{left}
@@ -66,29 +67,23 @@ since_all octets at h {array} {rest} {n} y =
     let e : left y.line (drop at octets) ≡ y.line = ap (left y.line) (drop_of_length-le octets {i = at} h) in
     rw (y.same ∙ e) y.holds
 
--- ---- a turn: s are the octets of the read that are not yet taken
-
-behind_all : (s : List ℕ) (k : ℕ) → take (length s - k) (drop k s) ≡ drop k s
-behind_all s k = take_all (length s - k) (drop k s) (omega (arith, length-drop k s))
-
-pub behind_shorter : (s : List ℕ) (k : ℕ) → 0 < k → k ≤ length s → length (take (length s - k) (drop k s)) < length s
-behind_shorter s k h l = rw (behind_all s k, length-drop) (omega arith)
+-- ---- a turn: at is the place of the octets s of the read from which on they are not yet taken
 
 -- each turn takes an octet, and no more than there are
-pub taken_within : (s array : List ℕ) (n n' taken : ℕ) {array' : List ℕ} → Joins s 0 n array (joined_by (length s) n' (Some taken)) array' → (0 < taken) × (taken ≤ length s)
-taken_within s array n n' taken x =
-    let e : taken ≡ (join_of (length array) s n 0).at = ap (λ (k : Joined). k.at) x.0 in
-    let some = ends_at_octet (length array) s n 0 (ap (λ (k : Joined). k.ended) (sym x.0)) in
-    (omega (arith, e, place_further (length array) s n 0 some), omega (arith, e, place_within (length array) s n 0))
+pub taken_within : (s array : List ℕ) (at n held next : ℕ) {array' : List ℕ} → Joins s at n array (record { at = next; held = held; ended = true }) array' → (at < next) × (next ≤ length s)
+taken_within s array at n held next x =
+    let e : next ≡ (join_of (length array) (drop at s) n at).at = ap (λ (k : Joined). k.at) x.0 in
+    let some = ends_at_octet (length array) (drop at s) n at (ap (λ (k : Joined). k.ended) (sym x.0)) in
+    (omega (arith, e, place_further (length array) (drop at s) n at some), omega (arith, e, some, length-drop at s, place_within (length array) (drop at s) n at))
 
-module _ (s : List ℕ) (n n' : ℕ) (r : Option ℕ) {array array' rest : List ℕ} (x : Joins s 0 n array (joined_by (length s) n' r) array') (y : Since array n s rest) where
-  result_is : {q : Option ℕ} → r ≡ q → Joins s 0 n array (joined_by (length s) n' q) array'
-  result_is e = subst (λ q. Joins s 0 n array (joined_by (length s) n' q) array') e x
+module _ (s : List ℕ) (at n n' : ℕ) (r : Option ℕ) {array array' rest : List ℕ} (x : Joins s at n array (joined_by (max at (length s)) n' r) array') (y : Since array n (drop at s) rest) where
+  result_is : {q : Option ℕ} → r ≡ q → Joins s at n array (joined_by (max at (length s)) n' q) array'
+  result_is e = subst (λ q. Joins s at n array (joined_by (max at (length s)) n' q) array') e x
 
-  pub line_answered : (taken : ℕ) → r ≡ Some taken → Since array' 0 (take (length s - taken) (drop taken s)) rest
-  line_answered taken e =
-      let t = taken_within s array n n' taken (result_is e) in
-      rw (behind_all s taken) (since_line s 0 n (result_is e) y refl refl (omega arith))
+  pub line_answered : (next : ℕ) → r ≡ Some next → Since array' 0 (drop next s) rest
+  line_answered next e =
+      let t = taken_within s array at n n' next (result_is e) in
+      since_line s at n (result_is e) y refl refl (omega (arith, t))
 
   pub all_taken : r ≡ None → Holds array' n' rest
-  all_taken e = since_all s (length s) (le_refl (length s)) (since_none s 0 n (result_is e) y refl)
+  all_taken e = since_all s (max at (length s)) (le-max_right at (length s)) (since_none s at n (result_is e) y refl)

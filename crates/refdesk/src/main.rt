@@ -65,11 +65,11 @@ fn last(rt: &impl Print, line: &Line<'_>) -> Result<(), Failure> {
 fn take_in(rt: &impl Print, octets: &[u8], line: &mut Line<'_>) -> Result<(), Failure>
     ensures { Takes octets.now line.old.held line.old.octets.now result line.new.held line.new.octets.now }
 {
-    let mut rest = octets;
-    while let Some(taken) = line.join(rest) {
+    let mut at = 0;
+    while let Some(next) = line.join(octets, at) {
         answered(rt, line)?;
         line.held = 0;
-        rest = &rest[taken..];
+        at = next;
     }
     Ok(())
 }

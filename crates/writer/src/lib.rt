@@ -68,11 +68,9 @@ impl Laying {
         requires { (b + left ≤ 300) × T (in_turn b left) }
         ensures { (zs us : List ℤ) → Holds slots.entry.numbers.now slots.entry.base zs → T (flags_under (length zs) (lines_from b left)) → ((left ≡ 0 → ⊥) → Holds slots.entry.numbers.now (slots.entry.base + first_at b) us) → Lays (subfields zs (lines_from b left)) (0, us) self.old.octets self.old.at self.new.octets self.new.at }
     {
-        if left == 0 {
-            return;
+        for i in 0..left {
+            self.subfield(slots, b + i);
         }
-        self.subfield(slots, b);
-        self.subfields(slots, b + 1, left - 1);
     }
 
     // One item of those that some paper has, with so many parts of its chain.
@@ -99,17 +97,15 @@ impl Laying {
         }
     }
 
-    // The left items of a record from spot k on, the first of them having index i.
-    fn row(&mut self, kept: &Record, k: usize, i: usize, left: usize)
-        requires { (k + left ≤ 200) × (i + left ≤ 8) × T (row_ok k left) }
-        ensures { Lays (row (drop i (flags kept.now.items)) (items_from k left)) (held_from k left i kept.now.parts kept.now.numbers) self.old.octets self.old.at self.new.octets self.new.at }
+    // The first n items of a record, from spot k on.
+    fn row(&mut self, kept: &Record, k: usize, n: usize)
+        requires { (k + n ≤ 200) × (n ≤ 8) × T (row_ok k n) }
+        ensures { Lays (row (flags kept.now.items) (items_from k n)) (held_from k n 0 kept.now.parts kept.now.numbers) self.old.octets self.old.at self.new.octets self.new.at }
     {
-        if left == 0 {
-            return;
+        for i in 0..n {
+            let there = flags::present(kept.items, i);
+            self.place(there, kept.parts[i], &kept.numbers, k + i);
         }
-        let there = flags::present(kept.items, i);
-        self.place(there, kept.parts[i], &kept.numbers, k);
-        self.row(kept, k + 1, i + 1, left - 1);
     }
 }
 
@@ -125,7 +121,7 @@ fn lay(kept: &Record, octets: &mut Field)
         at: 2,
     };
     field.octets[1] = kept.items;
-    field.row(kept, first, 0, n);
+    field.row(kept, first, n);
     field.octets[0] = leaves::octet(field.at);
     *octets = field.octets;
 }

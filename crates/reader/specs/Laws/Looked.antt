@@ -1,17 +1,18 @@
 -- Behind a chain its numbers lead, and by them each subfield is there or not.
-use Rattle.std.specs.Prelude.{◌≡◌, refl, Bool, true, false, List, ◌++◌, ℕ, ◌+◌, ◌<◌, ℤ, pos, length, get_or, replicate}
+use Rattle.std.specs.Prelude.{◌≡◌, refl, Bool, true, false, List, ◌++◌, ℕ, zero, suc, ◌+◌, ◌<◌, ℤ, pos, length, get_or, replicate, Err}
 use Rattle.std.proofs.Math.Path.{sym, ap, subst}
 use Rattle.std.proofs.Common.{◌∙◌, arith}
 use Rattle.codec.specs.Codec.{Res, got, bad, opt}
 use Rattle.codec.specs.Line.{Held, line}
 use Rattle.codec.specs.Item.{nothing, is_one, flagged}
 use Rattle.lengths.specs.Lines.{line_at, count_at}
+use Rattle.reader.specs.declared.lines.Stop.{Stop}
 use Rattle.reader.specs.Steps.{run, line_run}
 use Rattle.reader.specs.Items.{more, extend}
-use Rattle.reader.specs.Seen.{Ends, Went}
-use Rattle.reader.specs.Laws.Items.{Begins, begins_more, begins_itself}
+use Rattle.reader.specs.Seen.{Ends, Went, step_number}
+use Rattle.reader.specs.Laws.Items.{more_from, Begins, begins_more, begins_itself}
 use Rattle.reader.specs.Laws.Parts.{Holds}
-use Rattle.reader.specs.Laws.Seen.{ends_got, ends_bad, ended, ends_map}
+use Rattle.reader.specs.Laws.Seen.{ends_got, ends_bad, ended, ends_map, ends_same, err_big}
 
 abbrev Leads : List ℕ → List ℤ → Res Held → Type 0
 Leads xs zs (got v n) = Begins xs zs v.1
@@ -61,3 +62,15 @@ module _ (b : ℕ) (xs : List ℕ) (zs : List ℤ) where
           by false eu =
               let z : a + 0 ≡ a = omega arith in
               rw (flag ∙ eu) (ends_got (v.0, v.1 ++ replicate (count_at b) (pos 0)) a (ap (got (v.0, v.1 ++ replicate (count_at b) (pos 0))) z) (w.absent h eu) h)
+
+-- ---- what stops the subfields
+
+stays : (b n : ℕ) (xs : List ℕ) (e p : ℕ) → more_from b n xs (bad e p) ≡ bad e p
+unfolding more_from more
+stays b zero xs e p = refl
+stays b (suc n) xs e p = stays (b + 1) n xs e p
+
+pub more_stop : (b n : ℕ) (xs : List ℕ) {x y : Res Held} → more_from b n xs x ≡ y → (e : Stop) → Ends x (step_number (Err e)) → Ends y (step_number (Err e))
+more_stop b n xs q e s = ends_same (ended s
+    (λ _ _ g. absurd (omega (arith, g, err_big e)))
+    (λ e p ex er f. ends_bad e p (ap (more_from b n xs) ex ∙ stays b n xs e p) er f)) q

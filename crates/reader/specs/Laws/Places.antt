@@ -1,15 +1,16 @@
 -- A row of items by their places: it is the row of the codec, and the code's steps are its places.
-use Rattle.std.specs.Prelude.{◌≡◌, Bool, List, [], ◌∷◌, ◌++◌, map, ℕ, zero, suc, ◌+◌, ◌-◌, ◌*◌, ◌%◌, ◌≤◌, ◌<◌, pos}
+use Rattle.std.specs.Prelude.{◌≡◌, Bool, List, [], ◌∷◌, ◌++◌, ℕ, zero, suc, ◌+◌, ◌-◌, ◌*◌, ◌≤◌, ◌<◌, pos, Result, Ok, Err, IsErrAnd}
 use Rattle.std.proofs.Math.Path.{refl, ap}
-use Rattle.std.proofs.Common.{sym, ap₂, ◌∙◌, subst, append_assoc, append-nil, mod-eq_of_lt}
+use Rattle.std.proofs.Common.{sym, ◌∙◌, append_assoc, append-nil}
 use Rattle.std.proofs.Math.Bool.{true, false}
 use native.Mathlib.Omega.{arith}
 use borrow.Author.Tests.{ne_eqb, eqb-true}
 use Rattle.std.proofs.Math.Dec.{eqb}
 use Rattle.std.proofs.Math.ListN.{length, replicate}
-use Rattle.codec.specs.Codec.{Res, got, bad, map_res, shift, opt}
+use Rattle.std.proofs.lemmas.Result.{err_from_is_err_and}
+use Rattle.codec.specs.Codec.{Res, got, bad, map_res}
 use Rattle.codec.specs.Line.{Held}
-use Rattle.codec.specs.Item.{slots, nothing, item}
+use Rattle.codec.specs.Item.{slots}
 use Rattle.codec.specs.Field.{first_flag, next_flags, flags}
 use Rattle.papers.specs.Papers.{known, items_of}
 use Rattle.papers.specs.Cat048.{cat048}
@@ -17,12 +18,13 @@ use Rattle.papers.specs.Cat021.{cat021}
 use Rattle.papers.specs.Cat007.{cat007}
 use Rattle.papers.proofs.Laws.Papers.{paper_048, paper_021, paper_007}
 use Rattle.spots.specs.Spots.{spot_at, spot_of, item_on}
+use Rattle.reader.specs.declared.lines.Stop.{Stop}
 use Rattle.reader.specs.declared.places.Places.{Places}
 use Rattle.reader.specs.Items.{item_run}
 use Rattle.reader.specs.Rows.{place_run, Found, found, go_on, row_from}
-use Rattle.reader.specs.Seen.{Ends, Went}
+use Rattle.reader.specs.Seen.{Ends, Went, step_number}
 use Rattle.reader.specs.Places.{behind_all, add_place, places_on, places_from, RowSeen}
-use Rattle.reader.specs.Laws.Seen.{ends_got, ends_bad, ended, ends_same}
+use Rattle.reader.specs.Laws.Seen.{ends_got, ends_bad, ended, ends_same, err_big}
 
 stays_bad : (k n : ℕ) (ds xs : List ℕ) (e p : ℕ) → places_on k n ds xs (bad e p) ≡ bad e p
 unfolding places_on
@@ -51,36 +53,26 @@ places_are k n ds xs = on_is k n ds xs (2 ∷ []) 2
 pub item_ends : (k K : ℕ) → k ≡ K → (xs : List ℕ) {x : Res Held} → x ≡ item_run K xs 0 → {r : ℕ} → Ends x r → Ends (item_run k xs 0) r
 item_ends k K e xs q s = ends_same s (q ∙ ap (λ j. item_run j xs 0) (sym e))
 
--- ---- so far the steps were so, and the last of them a; where that is an octet's number, they are
+-- a refusal that `?` hands on ends the row
+pub row_stop : (k n : ℕ) (ds xs : List ℕ) {x : Res (List ℕ)} {m : ℕ} {r : Result Places Stop} (e : Stop) → IsErrAnd r (λ y. y ≡ e) → Ends x (step_number (Err e)) → RowSeen (places_on k n ds xs x) m r
+row_stop k n ds xs {x} {r = r} e h s = let p = err_from_is_err_and r h in rw (p.1, p.2) (record {
+  step = ended s
+      (λ _ _ g. absurd (omega (arith, g, err_big e)))
+      (λ q p ex er f. ends_bad q p (ap (places_on k n ds xs) ex ∙ stays_bad k n ds xs q p) er f);
+  places = λ p q. let z : ◌≡◌ {A = Result Places Stop} (Err e) (Ok p) = q in let y : ◌≡◌ {A = ℕ} 0 1 = cc in absurd (omega arith);
+})
 
-abbrev pub low : List ℕ → List ℕ
-low so = map (◌% 256) so
+-- ---- so far the steps were so, and the last of them a
 
 pub record Kept (x : Res (List ℕ)) (so : List ℕ) (a : ℕ) : Type 0 where
   pub ends : Ends x a
-  pub all : (ps : List ℕ) (m : ℕ) → x ≡ got ps m → (ps ≡ so) × (a ≡ m) × (m < 256 → low so ≡ so)
+  pub all : (ps : List ℕ) (m : ℕ) → x ≡ got ps m → ps ≡ so
 
 pub kept_none : Kept (got (2 ∷ []) 2) (2 ∷ []) 2
 kept_none = record {
   ends = ends_got (2 ∷ []) 2 refl refl (omega arith);
-  all = λ ps m e. let z : ◌≡◌ {A = List ℕ} (2 ∷ []) ps = cc in let y : 2 ≡ m = cc in (sym z, y, λ _. refl);
+  all = λ ps m e. let z : ◌≡◌ {A = List ℕ} (2 ∷ []) ps = cc in sym z;
 }
-
-low_one : (so : List ℕ) (r : ℕ) → low so ≡ so → r < 256 → low (so ++ (r ∷ [])) ≡ so ++ (r ∷ [])
-low_one so r e h = map_end so ∙ ap₂ (λ x y. x ++ (y ∷ [])) e (mod-eq_of_lt h)
-  where
-    map_end : (so : List ℕ) → low (so ++ (r ∷ [])) ≡ low so ++ (r % 256 ∷ [])
-    map_end [] = refl
-    map_end (s ∷ so) = ap (s % 256 ∷◌) (map_end so)
-
--- a reading does not go back
-place_grows : (k : ℕ) (t : Bool) (xs : List ℕ) (at : ℕ) (v : Held) (m : ℕ) → place_run k t xs at ≡ got v m → at ≤ m
-unfolding place_run
-place_grows k t xs at v m e = go ((opt (nothing (slots (item_on k))) t (item (item_on k))).read _) e
-  where
-    go : (y : Res Held) → shift at y ≡ got v m → at ≤ m
-    go (got u n) h = let z : at + n ≡ m = cc in omega (arith, z)
-    go (bad q p) h = let z : ◌≡◌ {A = ℕ} 0 1 = cc in absurd (omega arith)
 
 module _ (k : ℕ) (t : Bool) (xs : List ℕ) {x : Res (List ℕ)} {so : List ℕ} {a r : ℕ} (s : Kept x so a) (w : Went t (item_run (spot_at k).0 xs a) a r) where
   -- what stands at the spot
@@ -114,27 +106,26 @@ module _ (k : ℕ) (t : Bool) (xs : List ℕ) {x : Res (List ℕ)} {so : List �
           there : (v : Held) → place_run k t xs a ≡ got v r → r < 65_536 → Kept (add_place k t xs x) (so ++ (r ∷ [])) r
           there v ey g =
               let z : add_place k t xs x ≡ got (ps ++ (r ∷ [])) r = at_once ∙ ap (behind_all ps) ey in
-              let so_far = s.all ps a ex in
-              let up : a ≤ r = place_grows k t xs a v r ey in
               record {
                 ends = ends_got (ps ++ (r ∷ [])) r z refl g;
                 all = λ qs m e.
                     let q : got (ps ++ (r ∷ [])) r ≡ got qs m = sym z ∙ e in
                     let eq : ps ++ (r ∷ []) ≡ qs = cc in
-                    let em : r ≡ m = cc in
-                    (sym eq ∙ ap (◌++ (r ∷ [])) so_far.0, em, λ l. low_one so r (so_far.2 (omega (arith, up, em, l))) (omega (arith, em, l)));
+                    sym eq ∙ ap (◌++ (r ∷ [])) (s.all ps a ex);
               }
 
 -- the row at its end
-pub kept_row : (n : ℕ) {x : Res (List ℕ)} {so : List ℕ} {a : ℕ} → Kept x so a → {r : Places} → r.0 ≡ a → r.1 ≡ low so ++ replicate (8 - n) 0 → RowSeen x n r
-kept_row n {x} s {r} ea er = record {
-  step = subst (Ends x) (sym ea) s.ends;
-  places = λ ps m e h. let k = s.all ps m e in er ∙ ap (◌++ replicate (8 - n) 0) (k.2 h ∙ sym k.0);
+pub kept_row : (n : ℕ) {x : Res (List ℕ)} {so : List ℕ} {r : Places} → Kept x so r.0 → r.1 ≡ so ++ replicate (8 - n) 0 → RowSeen x n (Ok r)
+kept_row n {x} {so} {r} s er = record {
+  step = s.ends;
+  places = λ p q ps m e.
+      let z : ◌≡◌ {A = Result Places Stop} (Ok r) (Ok p) = q in let y : r ≡ p = cc in
+      ap (λ (w : Places). w.1) (sym y) ∙ er ∙ ap (◌++ replicate (8 - n) 0) (sym (s.all ps m e));
 }
 
 -- ---- the row of each category
 
-module _ (cat ind : ℕ) (xs : List ℕ) {r : Places} where
+module _ (cat ind : ℕ) (xs : List ℕ) {r : Result Places Stop} where
   pub row_048 : cat ≡ 48 → RowSeen (places_from 0 5 (flags ind) xs) 5 r → RowSeen (places_from (spot_of cat) (items_of cat) (flags ind) xs) (items_of cat) r
   unfolding spot_of cat048
   row_048 e s =

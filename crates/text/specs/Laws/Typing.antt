@@ -1,10 +1,11 @@
 -- Words of the sheet put into its buffer by place: what the code of each word promises, and how one goes behind another.
 use Rattle.std.specs.Prelude.{◌≡◌, refl, Bool, true, false, List, [], ◌∷◌, ◌++◌, ℕ, zero, suc, ◌+◌, ◌-◌, ◌/◌, ◌%◌, ◌≤◌, ◌<◌, ltb, ℤ, pos, negsuc, nat_abs, length, set, take, drop, get_or}
-use Rattle.std.proofs.Common.{sym, ap, ap₂, ◌∙◌, subst, append_assoc, mod-eq_of_lt, add-one, arith, lt-ltb, le-ltb, ltb-true, take-suc}
+use Rattle.std.proofs.Common.{sym, ap, ap₂, ◌∙◌, subst, append_assoc, mod-eq_of_lt, add-one, arith, lt-ltb, le-ltb, ltb-true, take-suc, length-set}
 use Rattle.std.proofs.lemmas.List.Edits.{sets, sets-eq}
 use Rattle.std.proofs.Math.Seq.{take-append_seam}
 use Rattle.std.specs.Int.Signed.{lt_z}
 use Rattle.codec.proofs.Laws.Sets.{Put}
+use Rattle.codec.specs.Pick.{pick}
 use Rattle.scope.specs.Sheet.{digits_of, decimal, signed_decimal, key_line}
 use Rattle.text.specs.Typing.{typed_at, place_after, Types}
 
@@ -60,6 +61,29 @@ typed_front xs h {l} {m} {next} k a =
     let p : Put xs l 0 (typed_at l 0 xs) (place_after 0 xs) = typed_put xs l 0 (omega arith) in
     let e : next ≡ length xs = a.place ∙ p.place ∙ omega arith in
     (e, ap (λ j. take j m) e ∙ ap (take (length xs)) (a.octets ∙ p.octets ∙ sets-eq xs l 0 (omega arith)) ∙ take-append_seam xs (drop (0 + length xs) l))
+
+-- ---- what was typed lies in the buffer, whether it had room or not
+
+typed-length : (xs l : List ℕ) (at : ℕ) → length (typed_at l at xs) ≡ length l
+unfolding typed_at
+typed-length [] l at = refl
+typed-length (x ∷ xs) l at = by_room (ltb at 4_096) (typed-length xs (set l at x) (at + 1) ∙ length-set l at x)
+  where
+    by_room : (b : Bool) → length (typed_at (set l at x) (at + 1) xs) ≡ length l → length (pick b (typed_at (set l at x) (at + 1) xs) l) ≡ length l
+    by_room true h = h
+    by_room false h = refl
+
+place_within : (xs : List ℕ) (at : ℕ) → at ≤ 4_096 → place_after at xs ≤ 4_096
+unfolding place_after
+place_within [] at h = h
+place_within (x ∷ xs) at h = by_room (ltb at 4_096) refl (λ k. place_within xs (at + 1) k)
+  where
+    by_room : (b : Bool) → ltb at 4_096 ≡ b → (at + 1 ≤ 4_096 → place_after (at + 1) xs ≤ 4_096) → pick b (place_after (at + 1) xs) at ≤ 4_096
+    by_room true e f = f (omega (arith, ltb-true at 4_096 e))
+    by_room false e f = h
+
+pub types_within : {xs l : List ℕ} {at : ℕ} {m : List ℕ} {next : ℕ} → Types xs l at m next → length l ≡ 4_096 → at ≤ 4_096 → next ≤ length m
+types_within {xs} {l} {at} {m} {next} a k h = omega (arith, ap length a.octets ∙ typed-length xs l at, a.place, place_within xs at h)
 
 -- ---- the ways out of `octet`
 

@@ -1,12 +1,13 @@
 -- `writer::lay` meets its contract: LEN is known last. Assumes nothing.
-use mathlib.Core.Path.{refl}
+use Rattle.std.proofs.Common.{refl, arith}
 use Rattle.spots.specs.Laws.Spots.{row-asks}
 use Rattle.writer.specs.Laws.Frames.{lay_front}
 use Rattle.writer.proofs.lay.Goals as goal
 
 pub row-requires : goal.row-requires
 row-requires c =
-    row-asks c.args.kept.now.cat c.requires.0 c.spot_of-first.ensures c.items_of-n.ensures
+    let g = row-asks c.args.kept.now.cat c.requires.0 c.spot_of-first.ensures c.items_of-n.ensures in
+    (g.0, omega (arith, g), g.2)
 
 pub returns : goal.returns
 returns c =

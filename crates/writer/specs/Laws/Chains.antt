@@ -1,7 +1,7 @@
 -- Chains, subfields and items: each line is laid behind the one before it.
 use Rattle.std.specs.Prelude.{◌≡◌, refl, Bool, true, ℤ}
 use Rattle.std.proofs.Common.{sym, ◌∙◌, ltb-true, lt-ltb, ne_eqb, ltb→lt}
-use Rattle.std.proofs.Math.Path.{ap, subst}
+use Rattle.std.proofs.Math.Path.{ap, subst, subst₂}
 use Rattle.std.proofs.Math.Bool.{false}
 use mathlib.Core.List.{List, ◌∷◌}
 use Prim.Native.Nat.{ℕ, zero, suc, ◌+◌, ◌-◌, ◌<◌}
@@ -21,7 +21,7 @@ use Rattle.lengths.specs.Lines.{line_at, first_at, count_at}
 use Rattle.shapes.specs.declared.Shape.{Shape}
 use Rattle.shapes.specs.Shapes.{item_at, lines_from, flags_under, item_of, in_turn, shape_at}
 use Rattle.shapes.specs.Laws.Shapes.{Shaped, shaped-well, shape_single, shape_chained}
-use Rattle.shapes.specs.Laws.Runs.{lines_on}
+use Rattle.shapes.specs.Laws.Runs.{lines_on, turn_first, turn_rest}
 use Rattle.writer.specs.Laying.{Lays}
 use Rattle.writer.specs.Laws.Laying.{lays_via, lays_guard, lays_there, lays_none, lays_absent, lays_beside}
 use Rattle.writer.specs.Chains.{goes_on}
@@ -130,6 +130,60 @@ module _ (ns : List ℤ) (b left base : ℕ) (zs us : List ℤ) where
             (beside (count_at b) (opt (nothing (count_at b)) (flagged zs (line_at b)) (line (line_at b))) (λ _. subfields zs (lines_from (b + 1) j)))
             (lays_beside (count_at b) (opt (nothing (count_at b)) (flagged zs (line_at b)) (line (line_at b))) (λ _. subfields zs (lines_from (b + 1) j)) h
             (λ t. subst (λ i. Lays (subfields zs (lines_from (b + 1) i)) (0, drop (count_at b) us) m next q last) w k))
+
+-- ---- the loop of `subfields`, i of them being laid
+
+module _ (ns : List ℤ) (base b left : ℕ) where
+  -- the subfields that are left, and all of them
+  abbrev Left : ℕ → List ℕ → ℕ → List ℕ → ℕ → Type 0
+  Left i l at q last = (zs us : List ℤ) → Holds ns base zs → T (flags_under (length zs) (lines_from (b + i) (left - i))) → ((left - i ≡ 0 → ⊥) → Holds ns (base + first_at (b + i)) us)
+      → Lays (subfields zs (lines_from (b + i) (left - i))) (0, us) l at q last
+
+  abbrev Whole : List ℕ → ℕ → List ℕ → ℕ → Type 0
+  Whole l at q last = (zs us : List ℤ) → Holds ns base zs → T (flags_under (length zs) (lines_from b left)) → ((left ≡ 0 → ⊥) → Holds ns (base + first_at b) us)
+      → Lays (subfields zs (lines_from b left)) (0, us) l at q last
+
+  -- what lays the subfields that are left, from where the field is, lays all from where it was
+  abbrev pub SubsBehind : (i : ℕ) (l : List ℕ) (at : ℕ) (m : List ℕ) (next : ℕ) → Type 0
+  SubsBehind i l at m next = (q : List ℕ) (last : ℕ) → Left i m next q last → Whole l at q last
+
+  pub subs_begin : T (in_turn b left) → (l : List ℕ) (at : ℕ) → T (in_turn (b + 0) (left - 0)) × SubsBehind 0 l at l at
+  subs_begin turn l at =
+      let eb : b + 0 ≡ b = omega arith in
+      let el : left - 0 ≡ left = omega arith in
+      rw (eb, el) (turn, λ q last rest. rest)
+
+  module _ (i : ℕ) (h : i < left) (turn : T (in_turn (b + i) (left - i))) where
+    ahead : left - i ≡ 0 → ⊥
+    ahead e = omega arith
+
+    -- the slots of the next subfield begin behind
+    next_slot : (left - i - 1 ≡ 0 → ⊥) → base + first_at (b + i + 1) ≡ base + first_at (b + i) + count_at (b + i)
+    next_slot more = let f = turn_first (b + i) (left - i) more turn in omega (arith, f)
+
+    pub subs_turn : T (in_turn (b + (i + 1)) (left - (i + 1)))
+    subs_turn =
+        let eb : b + (i + 1) ≡ b + i + 1 = omega arith in
+        let el : left - (i + 1) ≡ left - i - 1 = omega arith in
+        rw (eb, el) (turn_rest (b + i) (left - i) ahead turn)
+
+    pub subs_next : {m p : List ℕ} {next after : ℕ}
+        → ((zs us : List ℤ) → Holds ns base zs → T (ltb (line_at (b + i)).flag (length zs)) → Holds ns (base + first_at (b + i)) us
+        → Lays (opt (nothing (count_at (b + i))) (flagged zs (line_at (b + i))) (line (line_at (b + i)))) (0, us) m next p after)
+        → {l : List ℕ} {at : ℕ} → SubsBehind i l at m next → SubsBehind (i + 1) l at p after
+    subs_next {p = p} {after = after} one so_far q last rest =
+        let n : ℕ = count_at (b + i) in
+        let eb : b + (i + 1) ≡ b + i + 1 = omega arith in
+        let el : left - (i + 1) ≡ left - i - 1 = omega arith in
+        so_far q last (λ zs us hz u hu.
+        let v = first_under ns (b + i) (left - i) base zs us ahead u in
+        let there = one zs (take n us) hz v.0 (holds_take n (hu ahead)) in
+        subs_on ns (b + i) (left - i) base zs us ahead u there
+        (subst₂ (λ x y. T (flags_under (length zs) (lines_from x y)) → ((y ≡ 0 → ⊥) → Holds ns (base + first_at x) (drop n us)) → Lays (subfields zs (lines_from x y)) (0, drop n us) p after q last)
+        eb el (rest zs (drop n us) hz) v.1 (λ more. holds_drop n (next_slot more) (hu ahead))))
+
+  pub subs_laid : (i : ℕ) → left - i ≡ 0 → {l m : List ℕ} {at next : ℕ} → SubsBehind i l at m next → Whole l at m next
+  subs_laid i e {m = m} {next = next} so_far = so_far m next (λ zs us hz u hu. subs_end ns (b + i) (left - i) base zs us e m next)
 
 -- ---- items, by their shape
 

@@ -1,71 +1,14 @@
 -- `reader::places::item` meets its contract: each item by its own walk. Assumes nothing.
 use mathlib.Core.Path.{refl, sym}
-use native.Mathlib.Omega.{arith}
 use Rattle.codec.proofs.Laws.Arms.{past}
 use Rattle.reader.specs.Laws.Tables.{total, cut, count, slots_of, slots, lines_of, item, cat048, cat021, cat007, items, placed_from, placed_in, placed, placed_at, item_at, lines_from, parts_ok, flags_under, item_of, line_run, item_run, more_from}
 use Rattle.reader.specs.Laws.Items.{item_from, past_items}
 use Rattle.reader.specs.Laws.Places.{item_ends}
 use Rattle.reader.proofs.places.item.Goals as goal
 
-pub md5-requires : goal.md5-requires
-unfolding cut total flags_under more_from item_run item_of lines_from parts_ok item item_at line_run slots slots_of placed_at placed placed_in placed_from lines_of items cat048 cat021 cat007 count
-md5-requires c = (c.requires, omega arith)
-
-pub m5n-requires : goal.m5n-requires
-unfolding cut total flags_under more_from item_run item_of lines_from parts_ok item item_at line_run slots slots_of placed_at placed placed_in placed_from lines_of items cat048 cat021 cat007 count
-m5n-requires c = (c.requires, omega arith)
-
 pub only-requires : goal.only-requires
 unfolding cut total flags_under more_from item_run item_of lines_from parts_ok item item_at line_run slots slots_of placed_at placed placed_in placed_from lines_of items cat048 cat021 cat007 count
-only-requires c = (c.requires, omega arith, tt)
-
-pub rpc-requires : goal.rpc-requires
-unfolding cut total flags_under more_from item_run item_of lines_from parts_ok item item_at line_run slots slots_of placed_at placed placed_in placed_from lines_of items cat048 cat021 cat007 count
-rpc-requires c = (c.requires, omega arith)
-
-pub seen-requires : goal.seen-requires
-unfolding cut total flags_under more_from item_run item_of lines_from parts_ok item item_at line_run slots slots_of placed_at placed placed_in placed_from lines_of items cat048 cat021 cat007 count
-seen-requires c = (c.requires, omega arith)
-
-pub seen-requires-in-5 : goal.seen-requires-in-5
-unfolding cut total flags_under more_from item_run item_of lines_from parts_ok item item_at line_run slots slots_of placed_at placed placed_in placed_from lines_of items cat048 cat021 cat007 count
-seen-requires-in-5 c = (c.requires, omega arith)
-
-pub seen-requires-in-6 : goal.seen-requires-in-6
-unfolding cut total flags_under more_from item_run item_of lines_from parts_ok item item_at line_run slots slots_of placed_at placed placed_in placed_from lines_of items cat048 cat021 cat007 count
-seen-requires-in-6 c = (c.requires, omega arith)
-
-pub seen-requires-in-7 : goal.seen-requires-in-7
-unfolding cut total flags_under more_from item_run item_of lines_from parts_ok item item_at line_run slots slots_of placed_at placed placed_in placed_from lines_of items cat048 cat021 cat007 count
-seen-requires-in-7 c = (c.requires, omega arith)
-
-pub seen-requires-in-8 : goal.seen-requires-in-8
-unfolding cut total flags_under more_from item_run item_of lines_from parts_ok item item_at line_run slots slots_of placed_at placed placed_in placed_from lines_of items cat048 cat021 cat007 count
-seen-requires-in-8 c = (c.requires, omega arith)
-
-pub sgv-requires : goal.sgv-requires
-unfolding cut total flags_under more_from item_run item_of lines_from parts_ok item item_at line_run slots slots_of placed_at placed placed_in placed_from lines_of items cat048 cat021 cat007 count
-sgv-requires c = (c.requires, omega arith)
-
-pub sta-requires : goal.sta-requires
-unfolding cut total flags_under more_from item_run item_of lines_from parts_ok item item_at line_run slots slots_of placed_at placed placed_in placed_from lines_of items cat048 cat021 cat007 count
-sta-requires c = (c.requires, omega arith)
-
-pub seen-requires-in-11 : goal.seen-requires-in-11
-unfolding cut total flags_under more_from item_run item_of lines_from parts_ok item item_at line_run slots slots_of placed_at placed placed_in placed_from lines_of items cat048 cat021 cat007 count
-seen-requires-in-11 c = (c.requires, omega arith)
-
-pub mes-requires : goal.mes-requires
-unfolding cut total flags_under more_from item_run item_of lines_from parts_ok item item_at line_run slots slots_of placed_at placed placed_in placed_from lines_of items cat048 cat021 cat007 count
-mes-requires c = (c.requires, omega arith)
-
-pub seen-requires-in-13 : goal.seen-requires-in-13
-unfolding cut total flags_under more_from item_run item_of lines_from parts_ok item item_at line_run slots slots_of placed_at placed placed_in placed_from lines_of items cat048 cat021 cat007 count
-seen-requires-in-13 c = (c.requires, omega arith)
-
-pub seen-requires-in_default : goal.seen-requires-in_default
-unfolding cut total flags_under more_from item_run item_of lines_from parts_ok item item_at line_run slots slots_of placed_at placed placed_in placed_from lines_of items cat048 cat021 cat007 count
-seen-requires-in_default c = (c.requires, omega arith)
+only-requires c = (c.requires, tt)
 
 pub returns-in-0 : goal.returns-in-0
 unfolding cut total flags_under more_from item_run item_of lines_from parts_ok item item_at line_run slots slots_of placed_at placed placed_in placed_from lines_of items cat048 cat021 cat007 count

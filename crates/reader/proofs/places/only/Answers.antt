@@ -2,22 +2,20 @@
 use mathlib.Core.Path.{◌∙◌}
 use native.Mathlib.Omega.{arith}
 use Rattle.reader.specs.Laws.Onward.{only_stops, only_over, only_ends}
+use Rattle.reader.specs.Laws.Seen.{handed, err_big}
 use Rattle.reader.proofs.places.only.Goals as goal
 
-pub returns-then-n-ge-BAD : goal.returns-then-n-ge-BAD
-returns-then-n-ge-BAD c =
+pub returns-in_err-n : goal.returns-in_err-n
+returns-in_err-n g c =
     let a = c.args in
-    only_stops a.b a.s.now a.at c.requires.2 c.seen-n.ensures c.if-n-ge-BAD.true
+    handed c.from_residual.result c.in_err-n.field-0.0 c.from_residual.ensures.1 (only_stops g.row.B a.s.now a.at c.requires.1 c.in_err-n.ensures (err_big c.in_err-n.field-0.0))
 
 pub returns-then-present : goal.returns-then-present
-returns-then-present c =
+returns-then-present g c =
     let a = c.args in
-    rw c.refused.ensures (only_over a.b a.s.now a.at c.requires.2 c.seen-n.ensures (omega (arith, c.if-n-ge-BAD.false)) (c.present.ensures ∙ c.before-2.ensures) c.if-present.true c.requires.1)
+    only_over g.row.B a.s.now a.at c.requires.1 c.in_ok-n.ensures (omega (arith, c.ranges.at.fits)) (c.present.ensures ∙ c.before-2.ensures) c.if-present.true (omega (arith, c.ranges.at.fits))
 
 pub returns : goal.returns
-returns c =
+returns g c =
     let a = c.args in
-    only_ends a.b a.s.now a.at c.requires.2 c.seen-n.ensures (omega (arith, c.if-n-ge-BAD.false)) (c.present.ensures ∙ c.before-2.ensures) c.if-present.false
-
-pub seen-n-requires : goal.seen-n-requires
-seen-n-requires c = (c.requires.0, c.requires.1)
+    only_ends g.row.B a.s.now a.at c.requires.1 c.in_ok-n.ensures (omega (arith, c.ranges.at.fits)) (c.present.ensures ∙ c.before-2.ensures) c.if-present.false
