@@ -13,7 +13,7 @@ echo "4 as: $(git grep -hoE ' as (u8|u32|u64|usize|i32|i64)\b' $B -- 'crates/*/s
 echo "4 leaves' conversions: $(git grep -hoE 'leaves::(wide|wide64|octet|octet64|less|less64|front)\(' $B -- 'crates/*/src/*.rt' | wc -l)"
 echo "4 derives: $(git grep -hE '^ *#\[derive' $B -- 'crates/*/src/*.rt' | wc -l); impl From|TryFrom|Display|Word: $(c '^ *impl.*(From|TryFrom|Display|Word)\b.* for ')"
 echo "5 buf: &mut [u8; 4096]: $(c 'buf: &mut \[u8; 4096\]')"
-for k in 'length s.now < (65_536|256)' 'length numbers.(old|now) ≡ SLOTS' 'length line.now ≤ 16384' 'base ≤ 255' 'length keys.now ≤ 1000' 'Fit '; do echo "5 clause $k: $(git grep -hE "requires.*$k" $B -- 'crates/*/src/*.rt' | wc -l)"; done
+for k in 'length s.now < (65_536|256)' 'length numbers.(old|now) ≡ SLOTS' 'length (self\.now\.)?line.now ≤ 16384' 'base ≤ 255' 'length keys.now ≤ 1000' 'Fit '; do echo "5 clause $k: $(git grep -hE "requires.*$k" $B -- 'crates/*/src/*.rt' | wc -l)"; done
 echo "6 array types of bytes: $(git grep -hoE '\[u8; (4096|300|255|MOST|ROOM|LONGEST)\]' $B -- 'crates/*/src/*.rt' | wc -l)"
 echo "8 files of answers: $(git ls-tree -r --name-only $B | grep -c 'Answers.antt$'), of invariants: $(git ls-tree -r --name-only $B | grep -c 'Invariants.antt$')"
 echo "8 lines under proofs/F/: $(git ls-tree -r --name-only $B | grep -E 'crates/[^/]+/proofs/.*(Answers|Invariants).antt$' | while read f; do git show $B:$f; done | wc -l)"
