@@ -9,15 +9,23 @@ use Rattle.desk.specs.Splicing.{splice_of}
 
 abbrev pub with_number : ℕ → Surveyed → Surveyed
 with_number zero v = v
-with_number (suc n) v = record { answer = Refused (suc n) 0; items = 0; starts = replicate 9 0 }
+with_number (suc n) v = record { answer = Refused (suc n) 0; items = v.items; starts = v.starts }
 
 abbrev pub allowed_by : ℕ → Surveyed → Answer → Surveyed
 allowed_by m v (Accepted n) = with_number m v
 allowed_by m v (Refused n p) = v
 
--- what a survey tells, or 12 or 13 of a field that is right
+-- what a survey tells, with 12 or 13 as the answer of a field that is right
 unfoldable pub allowed_of : ℕ → List ℕ → ℕ → ℕ → Surveyed
 allowed_of cat s list item = allowed_by (asked_of cat list item) (survey_of cat s) (survey_of cat s).answer
+
+-- as the code has it: behind a refusal zeros
+abbrev pub emptied_by : Answer → Surveyed → Surveyed
+emptied_by (Accepted n) v = v
+emptied_by (Refused n p) v = record { answer = Refused n p; items = 0; starts = replicate 9 0 }
+
+abbrev pub emptied : Surveyed → Surveyed
+emptied v = emptied_by v.answer v
 
 -- the first len octets of a field with the octets of an item exchanged for t, and the indicator n
 unfoldable pub exchange_of : ℕ → List ℕ → ℕ → List ℕ → ℕ → List ℕ → List ℕ

@@ -11,7 +11,7 @@ ghost use Rattle.scope.specs.Desk.{Edited};
 ghost use Rattle.layout.specs.Answer.{by_number, survey_by_number};
 ghost use Rattle.desk.specs.Asking.{refusal_number, asked_of};
 ghost use Rattle.desk.specs.Splicing.{splice_of};
-ghost use Rattle.desk.specs.Edits.{allowed_of, Exchangeable, exchange_of};
+ghost use Rattle.desk.specs.Edits.{allowed_of, emptied, Exchangeable, exchange_of};
 
 use layout::{Answer, Reason, Refusal, Survey};
 
@@ -55,7 +55,7 @@ fn spliced(field: &[u8], items: u8, from: usize, to: usize, new: &[u8], out: &mu
 
 // Where the items of a field stand that may be edited so; the refusal of the field is the answer unchanged, then 12 and 13.
 fn allowed(cat: u8, field: &[u8], list: u8, item: u8) -> Result<Survey, Refusal>
-    ensures { survey_by_number result ≡ allowed_of cat field.now list item }
+    ensures { survey_by_number result ≡ emptied (allowed_of cat field.now list item) }
 {
     let surveyed = reader::survey(cat, field);
     let Ok(found) = surveyed else {

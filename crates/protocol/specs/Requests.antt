@@ -19,8 +19,12 @@ number_of Replace = 6
 number_of Copy = 7
 number_of Rebuild = 8
 
+-- in the order of the forms
+abbrev pub requests : List Request
+requests = Read ∷ Write ∷ Sheet ∷ View ∷ Choose ∷ Remove ∷ Replace ∷ Copy ∷ Rebuild ∷ []
+
 abbrev pub request_of : ℕ → Request
-request_of q = get_or (Read ∷ Write ∷ Sheet ∷ View ∷ Choose ∷ Remove ∷ Replace ∷ Copy ∷ Rebuild ∷ []) q Rebuild
+request_of q = get_or requests q Rebuild
 
 abbrev pub judgement : Judged → Result Request ℕ
 judgement (Asks q) = Ok (request_of q)

@@ -14,7 +14,8 @@ ghost use Rattle.compare.specs.Lines.{line_of};
 ghost use Rattle.layout.specs.Answer.{rebuilt_by_number};
 ghost use Rattle.rebuild.specs.Rebuilds.{Rebuilds};
 
-use layout::{LONGEST, Reason, Rebuilt, Refusal};
+pub use layout::Rebuilt;
+use layout::{LONGEST, Reason, Refusal};
 use text::Text;
 
 // The first line, from 1, in which a text differs from the sheet of a field, with len for the value of its `len`.

@@ -7,20 +7,20 @@ use Rattle.codec.specs.Change.{put, set_flag}
 use Rattle.codec.proofs.Laws.Change.{new_octets, new_flag}
 use Rattle.scope.proofs.Laws.Outputs.{refused_left}
 use Rattle.codec.proofs.Laws.Codec.{octets_all}
-use Rattle.desk.specs.Laws.Edits.{allowed-found, allowed-fell, item_asked, edit_wrong, edit_right, exchange_asks, edit_made}
+use Rattle.desk.specs.Laws.Edits.{emptied-found, emptied-fell, item_asked, edit_wrong, edit_right, exchange_asks, edit_made}
 use Rattle.desk.proofs.replace.Goals as goal
 
 pub returns-in_err-found : goal.returns-in_err-found
 returns-in_err-found c =
     let a = c.args in
     let p = err_from_is_err_and c.from_residual.result c.from_residual.ensures.1 in
-    rw (p.1, p.2) (refused_left (allowed-fell a.cat a.field.now a.list a.item c.in_err-found.ensures refl (put a.new.now) (length a.out.now)) a.out.now refl)
+    rw (p.1, p.2) (refused_left (emptied-fell a.cat a.field.now a.list a.item c.in_err-found.ensures refl (put a.new.now) (length a.out.now)) a.out.now refl)
 
 pub exchanged-requires : goal.exchanged-requires
 unfolding new_octets
 exchanged-requires c =
     let a = c.args in
-    let f = allowed-found a.cat a.field.now a.list a.item c.in_ok-found.ensures refl in
+    let f = emptied-found a.cat a.field.now a.list a.item c.in_ok-found.ensures refl in
     let told = item_asked a.cat a.field.now f.0 refl a.list a.item refl f.1 a.new.now c.index-i.ensures c.is_item.ensures in
     let p = edit_right a.cat a.field.now f.0 refl a.list a.item refl f.1 a.new.now (sym told ∙ c.if-is_item.true) in
     exchange_asks a.cat a.field.now f.0 refl a.list a.item refl f.1 (octets_all a.field.now (λ i. omega (arith, c.type_inv.field i)))
@@ -30,7 +30,7 @@ pub returns-then-is_item : goal.returns-then-is_item
 unfolding new_octets new_flag
 returns-then-is_item c =
     let a = c.args in
-    let f = allowed-found a.cat a.field.now a.list a.item c.in_ok-found.ensures refl in
+    let f = emptied-found a.cat a.field.now a.list a.item c.in_ok-found.ensures refl in
     let told = item_asked a.cat a.field.now f.0 refl a.list a.item refl f.1 a.new.now c.index-i.ensures c.is_item.ensures in
     let p = edit_right a.cat a.field.now f.0 refl a.list a.item refl f.1 a.new.now (sym told ∙ c.if-is_item.true) in
     edit_made a.cat a.field.now f.0 refl a.list a.item refl f.1 (octets_all a.field.now (λ i. omega (arith, c.type_inv.field i)))
@@ -40,6 +40,6 @@ returns-then-is_item c =
 pub returns : goal.returns
 returns c =
     let a = c.args in
-    let f = allowed-found a.cat a.field.now a.list a.item c.in_ok-found.ensures refl in
+    let f = emptied-found a.cat a.field.now a.list a.item c.in_ok-found.ensures refl in
     let told = item_asked a.cat a.field.now f.0 refl a.list a.item refl f.1 a.new.now c.index-i.ensures c.is_item.ensures in
     rw c.at.ensures (refused_left (edit_wrong a.cat a.field.now f.0 refl a.list a.item refl f.1 a.new.now (length a.out.now) (sym told ∙ c.if-is_item.false)) a.out.now refl)

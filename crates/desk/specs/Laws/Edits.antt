@@ -1,5 +1,5 @@
 -- The ways out of the desk: each answers what 01 defines.
-use Rattle.std.specs.Prelude.{◌≡◌, Bool, ◌&&◌, take, replicate}
+use Rattle.std.specs.Prelude.{◌≡◌, Bool, ◌&&◌, take, replicate, Result, Ok, Err}
 use Rattle.std.proofs.Math.Path.{refl, sym, ap, ap₂, subst}
 use Rattle.std.proofs.Common.{◌∙◌, subst₂, leb→le, length-take}
 use Rattle.std.proofs.Math.Bool.{true, false}
@@ -24,7 +24,9 @@ use Rattle.codec.proofs.Laws.Longest.{field_size}
 use Rattle.codec.proofs.Laws.Change.{Splice, new_octets, new_flag, spliced}
 use Rattle.papers.specs.Papers.{LONGEST, known, paper_of, items_of}
 use Rattle.papers.proofs.Laws.Papers.{good_paper, few_items, few_octets}
-use Rattle.layout.specs.Answer.{Answer, Accepted, Refused, Surveyed}
+use Rattle.layout.specs.declared.Refusal.{Refusal}
+use Rattle.layout.specs.declared.Survey.{Survey}
+use Rattle.layout.specs.Answer.{Answer, Accepted, Refused, Surveyed, survey_by_number}
 use Rattle.scope.specs.Reading.{field_of}
 use Rattle.scope.specs.Outputs.{with_room, Leaves}
 use Rattle.scope.specs.Views.{is_item}
@@ -38,7 +40,7 @@ use Rattle.desk.specs.Asking.{asked_of}
 use Rattle.desk.specs.Laws.Asking.{asked_right}
 use Rattle.desk.specs.Splicing.{splice_of}
 use Rattle.desk.specs.Laws.Splicing.{splice_afresh}
-use Rattle.desk.specs.Edits.{with_number, allowed_by, allowed_of, exchange_of, Exchangeable}
+use Rattle.desk.specs.Edits.{with_number, allowed_by, allowed_of, emptied_by, emptied, exchange_of, Exchangeable}
 
 -- the ways out of `allowed`
 module _ (cat : ℕ) (s : List ℕ) (list item : ℕ) {v : Surveyed} (ev : v ≡ survey_of cat s) where
@@ -56,12 +58,17 @@ module _ (cat : ℕ) (s : List ℕ) (list item : ℕ) {v : Surveyed} (ev : v ≡
     pub allowed_yes : no ≡ 0 → v ≡ allowed_of cat s list item
     allowed_yes z = sym (by_number ∙ ap (λ m. with_number m v) z)
 
-    pub allowed_no : (no ≡ 0 → ⊥) → ◌≡◌ {A = Surveyed} (record { answer = Refused no 0; items = 0; starts = replicate 9 0 }) (allowed_of cat s list item)
+    pub allowed_no : (no ≡ 0 → ⊥) → ◌≡◌ {A = Surveyed} (record { answer = Refused no 0; items = v.items; starts = v.starts }) (allowed_of cat s list item)
     allowed_no h = go no h ∙ sym by_number
       where
-        go : (m : ℕ) → (m ≡ 0 → ⊥) → ◌≡◌ {A = Surveyed} (record { answer = Refused m 0; items = 0; starts = replicate 9 0 }) (with_number m v)
+        go : (m : ℕ) → (m ≡ 0 → ⊥) → ◌≡◌ {A = Surveyed} (record { answer = Refused m 0; items = v.items; starts = v.starts }) (with_number m v)
         go zero h = absurd (h refl)
         go (suc m) h = refl
+
+-- what the code surveys is so emptied
+pub emptied_told : (r : Result Survey Refusal) → survey_by_number r ≡ emptied (survey_by_number r)
+emptied_told (Ok v) = refl
+emptied_told (Err r) = refl
 
 -- the way out of `exchanged`: w is the item's number
 module _ (f : List ℕ) (len : ℕ) (starts : List ℕ) (item : ℕ) (t : List ℕ) {w : ℕ} (ew : w ≡ item) where
@@ -272,3 +279,18 @@ module _ (cat : ℕ) (s : List ℕ) (list item : ℕ) {w : Surveyed} (ew : w ≡
           let a2 : 0 ≡ p = cc in
           edit_unasked cat s refl ea list item ch room em (λ z. omega arith) ∙ ap₂ refused a1 a2
       go (Refused k q) ea m em h = edit_refused cat s refl h list item ch room
+
+-- as the code has it
+module _ (cat : ℕ) (s : List ℕ) (list item : ℕ) {w : Surveyed} (ew : w ≡ emptied (allowed_of cat s list item)) where
+  answer_is : (allowed_of cat s list item).answer ≡ w.answer
+  answer_is = sym (by_case (allowed_of cat s list item) (allowed_of cat s list item).answer refl) ∙ ap (λ (x : Surveyed). x.answer) (sym ew)
+    where
+      by_case : (v : Surveyed) (a : Answer) → v.answer ≡ a → (emptied_by a v).answer ≡ a
+      by_case v (Accepted n) e = e
+      by_case v (Refused n p) e = refl
+
+  pub emptied-found : {n : ℕ} → w.answer ≡ Accepted n → (w ≡ survey_of cat s) × (asked_of cat list item ≡ 0)
+  emptied-found e = allowed-found cat s list item (ew ∙ ap (λ a. emptied_by a (allowed_of cat s list item)) (answer_is ∙ e)) e
+
+  pub emptied-fell : {n p : ℕ} → w.answer ≡ Refused n p → (ch : Change) (room : ℕ) → edit_of cat s list item ch room ≡ refused n p
+  emptied-fell e = allowed-fell cat s list item refl (answer_is ∙ e)

@@ -9,4 +9,4 @@ returns-then-line-gt-LONGEST c = parse_long c.args.line.now c.if-line-gt-LONGEST
 
 pub returns : goal.returns
 unfolding forms
-returns c = parse_line c.args.line.now (omega arith) _ (refl, (refl, (refl, (refl, (refl, (refl, (refl, (refl, (refl, tt))))))))) refl c.judge.ensures c.places.ensures
+returns c = parse_line c.args.line.now (omega arith) _ refl refl c.judge.ensures c.places.ensures

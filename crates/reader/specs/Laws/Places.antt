@@ -8,9 +8,9 @@ use borrow.Author.Tests.{ne_eqb, eqb-true}
 use Rattle.std.proofs.Math.Dec.{eqb}
 use Rattle.std.proofs.Math.ListN.{length, replicate}
 use Rattle.std.proofs.lemmas.Result.{err_from_is_err_and}
-use Rattle.codec.specs.Codec.{Res, got, bad, map_res}
+use Rattle.codec.specs.Codec.{Res, got, bad, map_res, shift, opt}
 use Rattle.codec.specs.Line.{Held}
-use Rattle.codec.specs.Item.{slots}
+use Rattle.codec.specs.Item.{slots, nothing, item}
 use Rattle.codec.specs.Field.{first_flag, next_flags, flags}
 use Rattle.papers.specs.Papers.{known, items_of}
 use Rattle.papers.specs.Cat048.{cat048}
@@ -73,6 +73,15 @@ kept_none = record {
   ends = ends_got (2 ∷ []) 2 refl refl (omega arith);
   all = λ ps m e. let z : ◌≡◌ {A = List ℕ} (2 ∷ []) ps = cc in sym z;
 }
+
+-- a reading does not go back
+pub place_grows : (k : ℕ) (t : Bool) (xs : List ℕ) (at : ℕ) (v : Held) (m : ℕ) → place_run k t xs at ≡ got v m → at ≤ m
+unfolding place_run
+place_grows k t xs at v m e = go ((opt (nothing (slots (item_on k))) t (item (item_on k))).read _) e
+  where
+    go : (y : Res Held) → shift at y ≡ got v m → at ≤ m
+    go (got u n) h = let z : at + n ≡ m = cc in omega (arith, z)
+    go (bad q p) h = let z : ◌≡◌ {A = ℕ} 0 1 = cc in absurd (omega arith)
 
 module _ (k : ℕ) (t : Bool) (xs : List ℕ) {x : Res (List ℕ)} {so : List ℕ} {a r : ℕ} (s : Kept x so a) (w : Went t (item_run (spot_at k).0 xs a) a r) where
   -- what stands at the spot

@@ -49,7 +49,7 @@ module _ (ns : List ℤ) (n b parts base : ℕ) where
   unfolding is_there
   there_sub z ef et = et ∙ ap (λ f. is_one (number_at ns (base + f))) ef ∙ rw (eq-eqb parts 0 z) refl
 
-  there_part : (parts ≡ 0 → ⊥) → ltb 0 n ≡ is_there ns n b parts base
+  pub there_part : (parts ≡ 0 → ⊥) → ltb 0 n ≡ is_there ns n b parts base
   unfolding is_there
   there_part z = rw (ne_eqb parts 0 z) refl
 

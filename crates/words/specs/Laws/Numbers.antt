@@ -40,7 +40,7 @@ too_large : (limit v : ℕ) (w : List ℕ) → limit < v → from_here limit v w
 unfolding from_here goes_on
 too_large limit v w h = rw (lt-leb (value_from v w) limit (omega (arith, grows v w))) (neither (are_digits w) (value_from v w) (limit + 1))
 
-here_end : (limit v : ℕ) (w : List ℕ) (i : ℕ) → length w ≤ i → v ≤ limit → from_here limit v (drop i w) ≡ v
+pub here_end : (limit v : ℕ) (w : List ℕ) (i : ℕ) → length w ≤ i → v ≤ limit → from_here limit v (drop i w) ≡ v
 unfolding from_here goes_on are_digits value_from
 here_end limit v [] zero h k = rw (le-leb v limit k) refl
 here_end limit v [] (suc i) h k = rw (le-leb v limit k) refl
@@ -53,26 +53,26 @@ unfolding is_digit
 digit_is o = ap (λ b. leb 48 o && b) (sym (leb-suc-suc o 57))
 
 module _ (limit v : ℕ) (w : List ℕ) (i : ℕ) (h : i < length w) where
-  here_other : is_ascii_digit (get_or w i 0) ≡ false → from_here limit v (drop i w) ≡ limit + 1
+  pub here_other : is_digit (get_or w i 0) ≡ false → from_here limit v (drop i w) ≡ limit + 1
   unfolding from_here goes_on are_digits
-  here_other e = rw (drop-cons w i 0 h, sym (digit_is (get_or w i 0)) ∙ e) refl
+  here_other e = rw (drop-cons w i 0 h, e) refl
 
-  here_more : is_ascii_digit (get_or w i 0) ≡ true → from_here limit v (drop i w) ≡ from_here limit (v * 10 + (get_or w i 0 - 48)) (drop (i + 1) w)
+  pub here_more : is_digit (get_or w i 0) ≡ true → from_here limit v (drop i w) ≡ from_here limit (v * 10 + (get_or w i 0 - 48)) (drop (i + 1) w)
   unfolding from_here goes_on are_digits value_from
-  here_more e = rw (add-one i, drop-cons w i 0 h, sym (digit_is (get_or w i 0)) ∙ e) refl
+  here_more e = rw (add-one i, drop-cons w i 0 h, e) refl
 
 -- ---- the ways out of `number`
 
 -- as code gives it
-is_past : (limit n : ℕ) → n ≡ limit + 1 → None ≡ at_most limit n
+pub is_past : (limit n : ℕ) → n ≡ limit + 1 → None ≡ at_most limit n
 is_past limit n e = rw (e, lt-leb (limit + 1) limit (omega arith)) refl
 
 is_here : (limit n v : ℕ) → n ≡ v → v ≤ limit → Some v ≡ at_most limit n
 is_here limit n v e h = rw (e, le-leb v limit h) refl
 
-pub not_leading : (limit : ℕ) (w : List ℕ) → leads w ≡ false → None ≡ at_most limit (number_in limit w)
+pub not_leading : (limit : ℕ) (w : List ℕ) → leads w ≡ false → number_in limit w ≡ limit + 1
 unfolding number_in is_number
-not_leading limit w e = is_past limit (number_in limit w) (rw e refl)
+not_leading limit w e = rw e refl
 
 pub leading : (limit : ℕ) (w : List ℕ) → leads w ≡ true → number_in limit w ≡ from_here limit 0 w
 unfolding number_in is_number from_here value_of
@@ -81,10 +81,10 @@ leading limit w e = rw e refl
 -- at a place that the loop reaches
 module _ (limit v : ℕ) (w : List ℕ) (i : ℕ) (so_far : number_in limit w ≡ from_here limit v (drop i w)) where
   pub no_digit : i < length w → is_ascii_digit (get_or w i 0) ≡ false → None ≡ at_most limit (number_in limit w)
-  no_digit h e = is_past limit (number_in limit w) (so_far ∙ here_other limit v w i h e)
+  no_digit h e = is_past limit (number_in limit w) (so_far ∙ here_other limit v w i h (sym (digit_is (get_or w i 0)) ∙ e))
 
   pub digit_more : i < length w → is_ascii_digit (get_or w i 0) ≡ true → number_in limit w ≡ from_here limit (v * 10 + (get_or w i 0 - 48)) (drop (i + 1) w)
-  digit_more h e = so_far ∙ here_more limit v w i h e
+  digit_more h e = so_far ∙ here_more limit v w i h (sym (digit_is (get_or w i 0)) ∙ e)
 
   pub digit_over : i < length w → is_ascii_digit (get_or w i 0) ≡ true → limit < v * 10 + (get_or w i 0 - 48) → None ≡ at_most limit (number_in limit w)
   digit_over h e k = is_past limit (number_in limit w) (digit_more h e ∙ too_large limit (v * 10 + (get_or w i 0 - 48)) (drop (i + 1) w) k)
@@ -131,25 +131,25 @@ digit_least o e = by_test (ltb 47 o) refl e
 
 -- ---- the ways out of `below` and `signed`
 
-pub below_none : (m : ℕ) → m ≡ 0 → None ≡ within_32 (below m)
+pub below_none : (m : ℕ) → m ≡ 0 → pos 2_147_483_648 ≡ below m
 unfolding below
 below_none m e = rw (eq-eqb m 0 e) refl
 
-below_more : (m : ℕ) → (m ≡ 0 → ⊥) → 2_147_483_648 < m → None ≡ within_32 (below m)
+pub below_more : (m : ℕ) → (m ≡ 0 → ⊥) → 2_147_483_648 < m → pos 2_147_483_648 ≡ below m
 unfolding below
 below_more m e h = rw (ne_eqb m 0 e, lt-ltb 2_147_483_648 m h) refl
 
-below_some : (m : ℕ) → (m ≡ 0 → ⊥) → m ≤ 2_147_483_648 → below m ≡ negsuc (m - 1)
+pub below_some : (m : ℕ) → (m ≡ 0 → ⊥) → m ≤ 2_147_483_648 → negsuc (m - 1) ≡ below m
 unfolding below
 below_some m e h = rw (ne_eqb m 0 e, le-ltb 2_147_483_648 m h) refl
 
 -- what a conversion to 32 bits says of a number below 0
 pub below_told : {E : Type 0} (m : ℕ) → (m ≡ 0 → ⊥) → (r : Result ℤ E) → OkIff r (SFits w32 (negsuc (m - 1))) (negsuc (m - 1)) → result_ok r ≡ within_32 (below m)
-below_told m e (Ok z) (fits, is) = rw (below_some m e (omega (arith, fits.sfits)), is) refl
+below_told m e (Ok z) (fits, is) = rw (sym (below_some m e (omega (arith, fits.sfits))), is) refl
 below_told m e (Err d) none = by_size (ltb 2_147_483_648 m) refl
   where
     by_size : (b : Bool) → ltb 2_147_483_648 m ≡ b → ◌≡◌ {A = Option ℤ} None (within_32 (below m))
-    by_size true t = below_more m e (ltb-true 2_147_483_648 m t)
+    by_size true t = ap within_32 (below_more m e (ltb-true 2_147_483_648 m t))
     by_size false t = absurd (none (record { sfits = omega (arith, ltb-false 2_147_483_648 m t) }))
 
 -- two tests that hold together
@@ -161,20 +161,20 @@ pub number_most : (limit : ℕ) (w : List ℕ) → is_number limit w ≡ true �
 unfolding is_number goes_on value_of
 number_most limit w e = leb-true (value_of w) limit (both (are_digits w) _ (both (leads w) _ e).1).1
 
-signed_below : (w : List ℕ) → get_or w 0 0 ≡ 45 → below (number_in 2_147_483_648 (drop 1 w)) ≡ signed_in w
+pub signed_below : (w : List ℕ) → get_or w 0 0 ≡ 45 → below (number_in 2_147_483_648 (drop 1 w)) ≡ signed_in w
 unfolding signed_in is_signed signed_value number_in below
 signed_below w e = rw (eq-eqb (get_or w 0 0) 45 e) (by_form (is_number 2_147_483_648 (drop 1 w)) refl)
   where
     by_zero : (v : ℕ) → v ≤ 2_147_483_648 → below v ≡ pick (true && leb 1 v) (negsuc (v - 1)) (pos 2_147_483_648)
     by_zero zero h = refl
-    by_zero (suc v) h = rw (le-leb 1 (suc v) (omega arith)) (below_some (suc v) (λ z. omega arith) h)
+    by_zero (suc v) h = rw (le-leb 1 (suc v) (omega arith)) (sym (below_some (suc v) (λ z. omega arith) h))
 
     by_form : (b : Bool) → is_number 2_147_483_648 (drop 1 w) ≡ b
         → below (pick b (value_of (drop 1 w)) (2_147_483_648 + 1)) ≡ pick (b && leb 1 (value_of (drop 1 w))) (negsuc (value_of (drop 1 w) - 1)) (pos 2_147_483_648)
     by_form true t = by_zero (value_of (drop 1 w)) (number_most 2_147_483_648 (drop 1 w) t)
     by_form false t = refl
 
-signed_above : (w : List ℕ) → (get_or w 0 0 ≡ 45 → ⊥) → pos (number_in 2_147_483_647 w) ≡ signed_in w
+pub signed_above : (w : List ℕ) → (get_or w 0 0 ≡ 45 → ⊥) → pos (number_in 2_147_483_647 w) ≡ signed_in w
 unfolding signed_in is_signed signed_value number_in
 signed_above w e = rw (ne_eqb (get_or w 0 0) 45 e) (outside (is_number 2_147_483_647 w))
   where
@@ -203,7 +203,7 @@ module _ (w digits : List ℕ) (minus : w ≡ 45 ∷ digits) where
   below_digits = rw minus (ap within_32 (sym (signed_below (45 ∷ digits) refl)))
 
   pub minus_none : None ≡ at_most 2_147_483_648 (number_in 2_147_483_648 digits) → None ≡ within_32 (signed_in w)
-  minus_none e = let k : 2_147_483_648 < number_in 2_147_483_648 digits = past_is _ _ (sym e) in below_more _ (λ z. omega arith) k ∙ sym below_digits
+  minus_none e = let k : 2_147_483_648 < number_in 2_147_483_648 digits = past_is _ _ (sym e) in ap within_32 (below_more _ (λ z. omega arith) k) ∙ sym below_digits
 
   pub minus_some : {m : ℕ} → Some m ≡ at_most 2_147_483_648 (number_in 2_147_483_648 digits) → within_32 (below m) ≡ within_32 (signed_in w)
   minus_some e = ap (λ k. within_32 (below k)) (sym (here_is _ _ _ (sym e)).0) ∙ sym below_digits
