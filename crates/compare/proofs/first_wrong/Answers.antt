@@ -1,13 +1,13 @@
 -- From each place that the loop reaches the first wrong line is the same.
 use Rattle.std.proofs.Common.{inl, inr, length, ap, ◌∙◌, sym, arith}
 use Rattle.compare.specs.Lines.{line_of}
-use Rattle.compare.specs.Laws.Compared.{wrong_none, wrong_end, wrong_here, wrong_feed, wrong_on}
+use Rattle.compare.specs.Laws.Compared.{wrong_none, end_line, here_line, wrong_feed, wrong_on}
 use Rattle.compare.proofs.first_wrong.Goals as goal
 
 pub returns-then-a-b : goal.returns-then-a-b
 returns-then-a-b c =
     let left = c.in-Some.ensures.steps in
-    wrong_here _ left.0 left.1 c.loop-a.invariant.from_one c.if-a-b.true ∙ ap line_of (sym c.loop-a.invariant.answer)
+    here_line _ left.0 left.1 c.loop-a.invariant.from_one c.if-a-b.true ∙ ap line_of (sym c.loop-a.invariant.answer)
 
 pub loop-a-preserved-then-a-eq10 : goal.loop-a-preserved-then-a-eq10
 loop-a-preserved-then-a-eq10 c =
@@ -37,4 +37,4 @@ pub returns-then-s-t : goal.returns-then-s-t
 returns-then-s-t c = wrong_none _ _ _ (omega (arith, c.in-None.ensures.steps)) (omega (arith, c.in-None.ensures.steps)) ∙ ap line_of (sym c.loop-a.invariant.answer)
 
 pub returns : goal.returns
-returns c = wrong_end _ _ _ c.loop-a.invariant.from_one (elim c.in-None.ensures.steps [ inl x ↦ inl x.1.0 | inr x ↦ inr x.1.0 ]) (λ e. omega arith) ∙ ap line_of (sym c.loop-a.invariant.answer)
+returns c = end_line _ _ _ c.loop-a.invariant.from_one (elim c.in-None.ensures.steps [ inl x ↦ inl x.1.0 | inr x ↦ inr x.1.0 ]) (λ e. omega arith) ∙ ap line_of (sym c.loop-a.invariant.answer)

@@ -1,6 +1,6 @@
 -- The comparison of two texts: one law for each way through the code.
-use Rattle.std.specs.Prelude.{◌≡◌, Bool, true, false, ◌&&◌, List, [], ◌∷◌, Some, None, ltb, ℕ, ◌+◌, ◌<◌, ◌⊎◌, eqb, length, take}
-use Rattle.std.proofs.Common.{refl, sym, ap, ◌∙◌, arith, inl, inr}
+use Rattle.std.specs.Prelude.{◌≡◌, Bool, true, false, ◌&&◌, List, [], ◌∷◌, Some, None, ltb, ℕ, ◌+◌, ◌≤◌, ◌<◌, ◌⊎◌, eqb, length, get_or, take, drop}
+use Rattle.std.proofs.Common.{refl, sym, ap, ◌∙◌, arith, inl, inr, drop_of_length-le, drop-cons}
 use Rattle.std.proofs.Math.Numerals.{add-one}
 use Rattle.std.specs.Cmp.Lexicographic.{pointwise}
 use Rattle.std.proofs.lemmas.Bool.{lt-ltb, ltb-true, ltb-false}
@@ -26,28 +26,38 @@ begins_is (o ∷ w) (x ∷ t) = ap (λ b. b && pointwise eqb w (take (length w) 
 
 -- ---- the comparison, k being the line that stands here
 
+pub wrong_end : (k : ℕ) (s t : List ℕ) (i : ℕ) → length s ≤ i → length t ≤ i → 0 ≡ first_wrong k (drop i s) (drop i t)
+unfolding first_wrong
+wrong_end k s t i h g = rw (drop_of_length-le s h, drop_of_length-le t g) refl
+
+pub wrong_more_text : (k : ℕ) (s t : List ℕ) (i : ℕ) → length s ≤ i → i < length t → k ≡ first_wrong k (drop i s) (drop i t)
+unfolding first_wrong
+wrong_more_text k s t i h g = rw (drop_of_length-le s h, drop-cons t i 0 g) refl
+
+module _ (k : ℕ) (s t : List ℕ) (i : ℕ) (h : i < length s) where
+  pub wrong_less-text : length t ≤ i → k ≡ first_wrong k (drop i s) (drop i t)
+  unfolding first_wrong
+  wrong_less-text g = rw (drop-cons s i 0 h, drop_of_length-le t g) refl
+
+  pub wrong_here : i < length t → (get_or s i 0 ≡ get_or t i 0 → ⊥) → k ≡ first_wrong k (drop i s) (drop i t)
+  unfolding first_wrong
+  wrong_here g e = rw (drop-cons s i 0 h, drop-cons t i 0 g, ne_eqb (get_or s i 0) (get_or t i 0) e) refl
+
+-- as code gives it
 is_line : {n k : ℕ} → n ≡ k → 0 < k → Some k ≡ line_of n
 is_line {n} {k} e h = rw (e, lt-ltb 0 k h) refl
 
 pub wrong_none : (k : ℕ) (s t : List ℕ) → length s ≡ 0 → length t ≡ 0 → None ≡ line_of (first_wrong k s t)
-unfolding first_wrong
-wrong_none k [] [] e f = refl
-wrong_none k [] (y ∷ t) e f = absurd (omega arith)
-wrong_none k (x ∷ s) t e f = absurd (omega arith)
+wrong_none k s t e f = ap line_of (wrong_end k s t 0 (omega (arith, e)) (omega (arith, f)))
 
-pub wrong_end : (k : ℕ) (s t : List ℕ) → 0 < k → (length s ≡ 0) ⊎ (length t ≡ 0) → (length s ≡ length t → ⊥) → Some k ≡ line_of (first_wrong k s t)
-unfolding first_wrong
-wrong_end k [] [] h e f = absurd (f refl)
-wrong_end k [] (y ∷ t) h e f = is_line refl h
-wrong_end k (x ∷ s) [] h e f = is_line refl h
-wrong_end k (x ∷ s) (y ∷ t) h (inl e) f = absurd (omega arith)
-wrong_end k (x ∷ s) (y ∷ t) h (inr e) f = absurd (omega arith)
+pub end_line : (k : ℕ) (s t : List ℕ) → 0 < k → (length s ≡ 0) ⊎ (length t ≡ 0) → (length s ≡ length t → ⊥) → Some k ≡ line_of (first_wrong k s t)
+end_line k s t h (inl e) f = is_line (sym (wrong_more_text k s t 0 (omega (arith, e)) (omega (arith, e, f)))) h
+end_line k s t h (inr e) f = is_line (sym (wrong_less-text k s t 0 (omega (arith, e, f)) (omega (arith, e)))) h
 
 -- the octets that stand here, and what is left
 module _ (k : ℕ) {s t : List ℕ} {x y : ℕ} {r u : List ℕ} (es : s ≡ x ∷ r) (et : t ≡ y ∷ u) where
-  pub wrong_here : 0 < k → (x ≡ y → ⊥) → Some k ≡ line_of (first_wrong k s t)
-  unfolding first_wrong
-  wrong_here h n = is_line (rw (es, et, ne_eqb x y n) refl) h
+  pub here_line : 0 < k → (x ≡ y → ⊥) → Some k ≡ line_of (first_wrong k s t)
+  here_line h n = rw (es, et) (is_line (sym (wrong_here k (x ∷ r) (y ∷ u) 0 (omega arith) (omega arith) n)) h)
 
   pub wrong_feed : x ≡ y → x ≡ 10 → first_wrong k s t ≡ first_wrong (k + 1) r u
   unfolding first_wrong

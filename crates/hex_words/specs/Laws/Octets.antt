@@ -176,17 +176,27 @@ octets_most w e = by_one (eqb (length w) 1) refl e
     by_one false k u = by_long (leb (length w) 8_192) refl (leb 1 (length w)) (eqb (length w % 2) 0 && are_hex w) u
 
 -- how many they are and what the array comes to hold
-abbrev Lays : List ℕ → List ℕ → Option ℕ → List ℕ → Type 0
-Lays w out n m = (n ≡ then_some (is_octets w) (length (octets_in w))) × (m ≡ sets out 0 (octets_in w))
+abbrev Lays : List ℕ → List ℕ → ℕ → List ℕ → Type 0
+Lays w out n m = (n ≡ length (octets_in w)) × (m ≡ sets out 0 (octets_in w))
+
+-- as code gives it: None where the word writes none
+abbrev Gives : List ℕ → List ℕ → Option ℕ → List ℕ → Type 0
+Gives w out o m = (o ≡ then_some (is_octets w) (length (octets_in w))) × (m ≡ sets out 0 (octets_in w))
 
 module _ (w out : List ℕ) where
-  pub octets_there : is_octets w ≡ true → {m : List ℕ} → m ≡ sets out 0 (octets_of w) → Lays w out (Some (length w / 2)) m
+  pub octets_there : is_octets w ≡ true → {m : List ℕ} → m ≡ sets out 0 (octets_of w) → Lays w out (length w / 2) m
   unfolding octets_in
-  octets_there e em = rw e (ap Some (sym (octets_length w)), em)
+  octets_there e em = rw e (sym (octets_length w), em)
 
-  pub octets_none : is_octets w ≡ false → Lays w out None out
+  pub octets_none : is_octets w ≡ false → Lays w out 0 out
   unfolding octets_in
   octets_none e = rw e (refl, refl)
+
+  pub octets_some : is_octets w ≡ true → {m : List ℕ} → m ≡ sets out 0 (octets_of w) → Gives w out (Some (length w / 2)) m
+  octets_some e em = let laid = octets_there e em in rw e (ap Some laid.0, laid.1)
+
+  pub not_octets : is_octets w ≡ false → Gives w out None out
+  not_octets e = rw e (refl, (octets_none e).1)
 
 -- ---- what the answer of `octets` says: so many octets stand in the array's front
 
@@ -207,17 +217,17 @@ octets_told w = by_form (is_octets w)
     by_form true = refl
     by_form false = refl
 
-module _ (w b : List ℕ) (eb : 4_096 ≡ length b) {o : Option ℕ} {n : ℕ} {m : List ℕ} (x : Lays w b o m) (en : n ≡ unwrap_or o 0) where
-  counted : n ≡ length (octets_in w)
-  counted = en ∙ ap (λ o. unwrap_or o 0) x.0 ∙ octets_told w
+pub octets_given : (w b : List ℕ) {o : Option ℕ} {n : ℕ} {m : List ℕ} → Gives w b o m → n ≡ unwrap_or o 0 → Lays w b n m
+octets_given w b x en = (en ∙ ap (λ o. unwrap_or o 0) x.0 ∙ octets_told w, x.1)
 
+module _ (w b : List ℕ) (eb : 4_096 ≡ length b) {n : ℕ} {m : List ℕ} (x : Lays w b n m) where
   pub octets_taken : take n m ≡ octets_in w
   octets_taken =
-      ap₂ take counted (x.1 ∙ sets-eq (octets_in w) b 0 (omega (arith, octets_few w)))
+      ap₂ take x.0 (x.1 ∙ sets-eq (octets_in w) b 0 (omega (arith, octets_few w)))
       ∙ take-append_seam (octets_in w) (drop (0 + length (octets_in w)) b)
 
   pub octets_counted : n ≡ length (take n m)
-  octets_counted = counted ∙ ap length (sym octets_taken)
+  octets_counted = x.0 ∙ ap length (sym octets_taken)
 
   pub octets_held : n ≤ length m
   octets_held = omega (arith, octets_counted, length-take n m)
@@ -244,18 +254,25 @@ module _ (w : List ℕ) where
       both true b e = refl
       both false b e = e
 
-  pub list_value : is_list w ≡ true → Some (octet_of (get_or w 0 0) (get_or w 1 0)) ≡ then_some (is_list w) (list_in w)
+  pub list_value : is_list w ≡ true → octet_of (get_or w 0 0) (get_or w 1 0) ≡ list_in w
   unfolding list_in
   list_value t = rw t refl
 
-  pub list_none : is_list w ≡ false → None ≡ then_some (is_list w) (list_in w)
+  pub list_none : is_list w ≡ false → 0 ≡ list_in w
+  unfolding list_in
   list_none t = rw t refl
+
+  -- as code gives it
+  pub list_some : is_list w ≡ true → Some (octet_of (get_or w 0 0) (get_or w 1 0)) ≡ then_some (is_list w) (list_in w)
+  list_some t = rw t (ap Some (list_value t))
+
+  pub not_list : is_list w ≡ false → None ≡ then_some (is_list w) (list_in w)
+  not_list t = rw t refl
 
   -- 0 where there is none
   pub list_told : unwrap_or (then_some (is_list w) (list_in w)) 0 ≡ list_in w
-  unfolding list_in
-  list_told = by_form (is_list w)
+  list_told = by_form (is_list w) refl
     where
-      by_form : (b : Bool) → unwrap_or (then_some b (pick b (octet_of (get_or w 0 0) (get_or w 1 0)) 0)) 0 ≡ pick b (octet_of (get_or w 0 0) (get_or w 1 0)) 0
-      by_form true = refl
-      by_form false = refl
+      by_form : (b : Bool) → is_list w ≡ b → unwrap_or (then_some b (list_in w)) 0 ≡ list_in w
+      by_form true t = refl
+      by_form false t = list_none t

@@ -2,7 +2,7 @@
 use Rattle.std.proofs.Common.{◌+◌, drop, sym, ap, ◌∙◌, arith}
 use Rattle.protocol.specs.Line.{words_at}
 use Rattle.protocol.specs.Forms.{fits, first_wrong, wrong_word}
-use Rattle.protocol.specs.Laws.Forms.{wrong_missing, wrong_here, wrong_more, wrong_none, wrong_over, wrong_start}
+use Rattle.protocol.specs.Laws.Forms.{some_missing, some_here, wrong_more, none_wrong, some_over, wrong_start}
 use Rattle.protocol.proofs.first_wrong.Goals as goal
 
 pub loop-kind-init : goal.loop-kind-init
@@ -10,11 +10,11 @@ loop-kind-init c = record { counted = omega arith; answer = wrong_start c.args.k
 
 pub returns-then-line-at : goal.returns-then-line-at
 returns-then-line-at c =
-    wrong_missing c.args.kinds.now c.args.line.now c.loop-kind.kind-index c.loop-kind.at c.loop-kind.n (omega arith) (omega arith) c.if-line-at.true ∙ ap wrong_word (sym c.loop-kind.invariant.answer)
+    some_missing c.args.kinds.now c.args.line.now c.loop-kind.kind-index c.loop-kind.at c.loop-kind.n (omega arith) (omega arith) c.if-line-at.true ∙ ap wrong_word (sym c.loop-kind.invariant.answer)
 
 pub returns-then-not-fits : goal.returns-then-not-fits
 returns-then-not-fits c =
-    wrong_here c.args.kinds.now c.args.line.now c.loop-kind.kind-index c.loop-kind.at c.loop-kind.n (omega arith) (omega arith) (omega arith) (sym (c.fits.ensures ∙ ap (fits _) c.word_at.ensures) ∙ c.if-not-fits.true) ∙ ap wrong_word (sym c.loop-kind.invariant.answer)
+    some_here c.args.kinds.now c.args.line.now c.loop-kind.kind-index c.loop-kind.at c.loop-kind.n (omega arith) (omega arith) (omega arith) (sym (c.fits.ensures ∙ ap (fits _) c.word_at.ensures) ∙ c.if-not-fits.true) ∙ ap wrong_word (sym c.loop-kind.invariant.answer)
 
 pub loop-kind-preserved : goal.loop-kind-preserved
 loop-kind-preserved c = record {
@@ -25,7 +25,7 @@ loop-kind-preserved c = record {
 }
 
 pub returns-then-line-at-2 : goal.returns-then-line-at-2
-returns-then-line-at-2 c = wrong_none c.args.kinds.now c.args.line.now c.loop-kind.kind-index c.loop-kind.at c.loop-kind.n (omega arith) c.if-line-at-2.true ∙ ap wrong_word (sym c.loop-kind.invariant.answer)
+returns-then-line-at-2 c = none_wrong c.args.kinds.now c.args.line.now c.loop-kind.kind-index c.loop-kind.at c.loop-kind.n (omega arith) c.if-line-at-2.true ∙ ap wrong_word (sym c.loop-kind.invariant.answer)
 
 pub returns : goal.returns
-returns c = wrong_over c.args.kinds.now c.args.line.now c.loop-kind.kind-index c.loop-kind.at c.loop-kind.n (omega arith) (omega arith) (omega arith) ∙ ap wrong_word (sym c.loop-kind.invariant.answer)
+returns c = some_over c.args.kinds.now c.args.line.now c.loop-kind.kind-index c.loop-kind.at c.loop-kind.n (omega arith) (omega arith) (omega arith) ∙ ap wrong_word (sym c.loop-kind.invariant.answer)

@@ -50,33 +50,46 @@ pub ruleset fits_ways = (number_some, signed_some, fits_byte, fits_octets, fits_
 
 -- ---- of `first_wrong`
 
-is_word : {n m : ℕ} → n ≡ m → 0 < m → Some m ≡ wrong_word n
-is_word {m = m} e h = rw (e, lt-ltb 0 m h) refl
-
 module _ (ks s : List ℕ) (k at n : ℕ) where
   abbrev pub wrong_from : ℕ
   wrong_from = first_wrong (drop k ks) (words_at s at) n
 
-  pub wrong_missing : 0 < n → k < length ks → length s < at → Some n ≡ wrong_word wrong_from
+  pub wrong_missing : k < length ks → length s < at → wrong_from ≡ n
   unfolding first_wrong
-  wrong_missing p h e = is_word (rw (drop-cons ks k 0 h, none_at s at e) refl) p
+  wrong_missing h e = rw (drop-cons ks k 0 h, none_at s at e) refl
 
-  pub wrong_here : 0 < n → k < length ks → at ≤ length s → fits (get_or ks k 0) (word_of (drop at s)) ≡ false → Some n ≡ wrong_word wrong_from
+  pub wrong_here : k < length ks → at ≤ length s → fits (get_or ks k 0) (word_of (drop at s)) ≡ false → wrong_from ≡ n
   unfolding first_wrong
-  wrong_here p h e f = is_word (rw (drop-cons ks k 0 h, some_at s at e, f) refl) p
+  wrong_here h e f = rw (drop-cons ks k 0 h, some_at s at e, f) refl
 
   pub wrong_more : k < length ks → at ≤ length s → fits (get_or ks k 0) (word_of (drop at s)) ≡ true
       → wrong_from ≡ first_wrong (drop (k + 1) ks) (words_at s (next_place s at)) (n + 1)
   unfolding first_wrong
   wrong_more h e f = rw (drop-cons ks k 0 h, some_at s at e, f, add-one k) refl
 
-  pub wrong_none : length ks ≤ k → length s < at → None ≡ wrong_word wrong_from
+  pub wrong_none : length ks ≤ k → length s < at → wrong_from ≡ 0
   unfolding first_wrong
   wrong_none h e = rw (drop_of_length-le ks {i = k} h, none_at s at e) refl
 
-  pub wrong_over : 0 < n → length ks ≤ k → at ≤ length s → Some n ≡ wrong_word wrong_from
+  pub wrong_over : length ks ≤ k → at ≤ length s → wrong_from ≡ n
   unfolding first_wrong
-  wrong_over p h e = is_word (rw (drop_of_length-le ks {i = k} h, some_at s at e) refl) p
+  wrong_over h e = rw (drop_of_length-le ks {i = k} h, some_at s at e) refl
+
+  -- as code gives it, which numbers no word 0
+  is_word : wrong_from ≡ n → 0 < n → Some n ≡ wrong_word wrong_from
+  is_word e p = rw (e, lt-ltb 0 n p) refl
+
+  pub some_missing : 0 < n → k < length ks → length s < at → Some n ≡ wrong_word wrong_from
+  some_missing p h e = is_word (wrong_missing h e) p
+
+  pub some_here : 0 < n → k < length ks → at ≤ length s → fits (get_or ks k 0) (word_of (drop at s)) ≡ false → Some n ≡ wrong_word wrong_from
+  some_here p h e f = is_word (wrong_here h e f) p
+
+  pub none_wrong : length ks ≤ k → length s < at → None ≡ wrong_word wrong_from
+  none_wrong h e = ap wrong_word (sym (wrong_none h e))
+
+  pub some_over : 0 < n → length ks ≤ k → at ≤ length s → Some n ≡ wrong_word wrong_from
+  some_over p h e = is_word (wrong_over h e) p
 
 pub wrong_start : (ks s : List ℕ) {at : ℕ} → at ≡ next_place s 0 → first_wrong ks (drop 1 (words_of s)) 2 ≡ first_wrong ks (words_at s at) 2
 wrong_start ks s e = ap (λ ws. first_wrong ks ws 2) (ap (drop 1) (sym (words_all s)) ∙ rest_at s 0 ∙ ap (words_at s) (sym e))

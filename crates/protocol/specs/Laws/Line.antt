@@ -1,21 +1,24 @@
 -- The words of a line by place: the word that starts at a place is what the code takes, and the places of `parse_of` are those of the line's words.
-use Rattle.std.specs.Prelude.{◌≡◌, Bool, ◌++◌, set, eqb, length, get_or, take, drop}
+use Rattle.std.specs.Prelude.{◌≡◌, Bool, ◌&&◌, ◌++◌, set, eqb, length, get_or, take, drop}
 use Rattle.std.proofs.Math.Path.{refl, ap}
-use Rattle.std.proofs.Common.{sym, ◌∙◌, append-nil, drop_of_length-le, length-take-le}
+use Rattle.std.proofs.Common.{sym, ap₂, ◌∙◌, append-nil, drop_of_length-le, length-take-le}
 use Rattle.std.proofs.Math.Bool.{true, false}
 use mathlib.Core.List.{List, [], ◌∷◌}
 use Prim.Native.Nat.{ℕ, zero, suc, ◌+◌, ◌-◌, ◌≤◌, ◌<◌}
 use Rattle.std.proofs.Math.Numerals.{add-one}
+use Rattle.std.specs.Cmp.Lexicographic.{pointwise}
+use Rattle.std.proofs.lemmas.Bool.Decides.{Decides-eqb}
+use Rattle.std.proofs.lemmas.Slice.Eq.{slice_eq-Decides}
 use Rattle.std.proofs.lemmas.List.Edits.{sets, sets-eq}
 use native.Mathlib.Omega.{arith}
-use borrow.Author.Tests.{le-leb, lt-leb, leb-true, leb-false}
+use borrow.Author.Tests.{le-leb, lt-leb, leb-true, leb-false, eq-eqb, eqb-true}
 use Rattle.std.proofs.Math.Dec.{leb, leb-suc-suc}
 use Rattle.std.proofs.Math.ListN.{length-drop}
 use Rattle.std.proofs.Math.Seq.{drop-drop, drop-nil}
 use Rattle.codec.specs.Pick.{pick}
 use Rattle.words.specs.Lines.{word_length, word_of}
 use Rattle.words.specs.Laws.Lines.{word_within}
-use Rattle.protocol.specs.Line.{glued, words_of, nth, words_at, next_place, places_from}
+use Rattle.protocol.specs.Line.{glued, words_of, nth, same, words_at, next_place, places_from}
 
 pub words_step : (s : List ℕ) → words_of s ≡ word_of s ∷ words_at s (suc (word_length s))
 unfolding words_of glued word_of word_length words_at
@@ -135,3 +138,34 @@ module _ (s : List ℕ) where
   pub placed_all : (l : List ℕ) → length l ≡ 10 → sets l 0 (places_from s 0 10) ≡ places_from s 0 10
   unfolding places_from
   placed_all l e = sets-eq (places_from s 0 10) l 0 (omega (arith, e)) ∙ ap (λ x. places_from s 0 10 ++ x) (drop_of_length-le l {i = 10} (omega (arith, e))) ∙ append-nil (places_from s 0 10)
+
+-- ---- words that are the same
+
+same_self : (a : List ℕ) → same a a ≡ true
+unfolding same
+same_self [] = refl
+same_self (x ∷ a) = rw (eq-eqb x x refl) (same_self a)
+
+same_is : (a b : List ℕ) → same a b ≡ true → a ≡ b
+unfolding same
+same_is [] [] e = refl
+same_is [] (y ∷ b) e = let z : ◌≡◌ {A = ℕ} 0 1 = cc in absurd (omega arith)
+same_is (x ∷ a) [] e = let z : ◌≡◌ {A = ℕ} 0 1 = cc in absurd (omega arith)
+same_is (x ∷ a) (y ∷ b) e = by_first (eqb x y) refl e (same_is a b)
+  where
+    by_first : (t : Bool) → eqb x y ≡ t → t && same a b ≡ true → (same a b ≡ true → a ≡ b) → x ∷ a ≡ y ∷ b
+    by_first true t f rest = ap₂ ◌∷◌ (eqb-true x y t) (rest f)
+    by_first false t f rest = let z : ◌≡◌ {A = ℕ} 0 1 = cc in absurd (omega arith)
+
+-- what tells equal words apart from others is this test
+pub same_told : (a b : List ℕ) {r : Bool} → (r ≡ true → a ≡ b) × (a ≡ b → r ≡ true) → r ≡ same a b
+same_told a b {r} x = by_answer r (same a b) x.0 (λ e. x.1 (same_is a b e)) (λ e. ap (same a) (sym e) ∙ same_self a)
+  where
+    by_answer : (r s : Bool) → (r ≡ true → a ≡ b) → (s ≡ true → r ≡ true) → (a ≡ b → s ≡ true) → r ≡ s
+    by_answer true s f g h = sym (h (f refl))
+    by_answer false true f g h = g refl
+    by_answer false false f g h = refl
+
+-- `==` is
+pub same_octets : (a b : List ℕ) → pointwise eqb a b ≡ same a b
+same_octets a b = same_told a b (slice_eq-Decides Decides-eqb a b (pointwise eqb a b) refl)

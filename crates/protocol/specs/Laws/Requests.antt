@@ -1,5 +1,5 @@
 -- The table in the code is the forms: one law for each way through `judge`, and what its answer is by the forms.
-use Rattle.std.specs.Prelude.{◌≡◌, Bool, true, false, ◌&&◌, List, [], ◌∷◌, ℕ, zero, suc, ◌+◌, ◌≤◌, ◌<◌, Option, Some, None, MatchOption, Result, Ok, Err, ltb, replicate, eqb, length, get_or, drop, map}
+use Rattle.std.specs.Prelude.{◌≡◌, Bool, true, false, List, [], ◌∷◌, ℕ, zero, suc, ◌+◌, ◌≤◌, ◌<◌, Option, Some, None, MatchOption, Result, Ok, Err, ltb, replicate, eqb, length, get_or, drop, map}
 use Rattle.std.specs.List.{range_with_len}
 use Rattle.std.proofs.Common.{refl, sym, ap, ◌∙◌, subst, arith, lt-ltb, le-ltb, ne_eqb, drop_of_length-le, drop-cons}
 use Rattle.std.proofs.lemmas.List.{get_or-map}
@@ -8,6 +8,7 @@ use Rattle.std.proofs.Math.Numerals.{add-one}
 use Rattle.std.specs.Cmp.Lexicographic.{pointwise}
 use Rattle.codec.specs.Pick.{pick}
 use Rattle.protocol.specs.Line.{words_of, nth, same, places_from}
+use Rattle.protocol.specs.Laws.Line.{same_octets}
 use Rattle.protocol.specs.Forms.{Form, forms, first_wrong, wrong_word, Judged, Asks, Wrong, judged_as, judged_by, Parse, parse_of}
 use Rattle.protocol.specs.Requests.{number_of, requests, request_of, judgement, parsed, asked_or, judged_in}
 use Rattle.protocol.specs.declared.Request.{Request}
@@ -15,13 +16,6 @@ use Rattle.protocol.specs.declared.Parsed.{Parsed}
 use Rattle.protocol.specs.declared.Row.{Row}
 
 -- ---- of `judge`
-
-pub same_is : (a b : List ℕ) → pointwise eqb a b ≡ same a b
-unfolding same
-same_is [] [] = refl
-same_is [] (y ∷ b) = refl
-same_is (x ∷ a) [] = refl
-same_is (x ∷ a) (y ∷ b) = ap (λ t. eqb x y && t) (same_is a b)
 
 pub asked_by : {Q : ℕ → Type 0} (r : Request) (o : Option ℕ) (x : Result Request ℕ) → MatchOption o (x ≡ Ok r) Q → ((n : ℕ) → Q n → x ≡ Err n) → x ≡ asked_or r o
 asked_by r None x h f = h
@@ -37,11 +31,11 @@ module _ (rows : List Row) (ws : List (List ℕ)) (i : ℕ) where
     pub judged_here : true ≡ pointwise eqb w (get_or rows i d).name.now
         → judged_in (drop i rows) ws ≡ asked_or (get_or rows i d).request (wrong_word (first_wrong (get_or rows i d).kinds.now (drop 1 ws) 2))
     unfolding judged_in
-    judged_here t = rw (drop-cons rows i d h, ← ew, ← same_is w (get_or rows i d).name.now, ← t) refl
+    judged_here t = rw (drop-cons rows i d h, ← ew, ← same_octets w (get_or rows i d).name.now, ← t) refl
 
     pub judged_more : false ≡ pointwise eqb w (get_or rows i d).name.now → judged_in (drop i rows) ws ≡ judged_in (drop (i + 1) rows) ws
     unfolding judged_in
-    judged_more t = rw (add-one i, drop-cons rows i d h, ← ew, ← same_is w (get_or rows i d).name.now, ← t) refl
+    judged_more t = rw (add-one i, drop-cons rows i d h, ← ew, ← same_octets w (get_or rows i d).name.now, ← t) refl
 
 -- ---- of `parse`
 

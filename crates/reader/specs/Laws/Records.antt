@@ -181,14 +181,21 @@ module _ (cat : ℕ) (s : List ℕ) where
       go (accepted r) = refl
       go (refused q p) = refl
 
-  pub accepted_by : {v : Survey} → survey_by_number (Ok v) ≡ survey_of cat s → Accepts cat s v.len
-  accepted_by ex = accepts (same_answer ex)
+  pub accepted_by : {x : Surveyed} → x ≡ survey_of cat s → {n : ℕ} → x.answer ≡ Accepted n → Accepts cat s n
+  accepted_by ex ea = accepts (same_answer ex ∙ ea)
+
+  -- of a survey as code gives it
+  pub accepted_ok : {v : Survey} → survey_by_number (Ok v) ≡ survey_of cat s → Accepts cat s v.len
+  accepted_ok ex = accepted_by ex refl
 
 -- ---- the ways out of `read_into`
 
-pub into_refused : (cat : ℕ) (s : List ℕ) (e : Refusal) → survey_by_number (Err e) ≡ survey_of cat s → {ps : List ℕ} {l : List ℤ} → ReadsInto (read_of cat s) ps l (by_number (Err e)) ps l
+pub into_refused : (cat : ℕ) (s : List ℕ) {x : Surveyed} → x ≡ survey_of cat s → {q p : ℕ} → x.answer ≡ Refused q p → {ps : List ℕ} {l : List ℤ} → ReadsInto (read_of cat s) ps l x.answer ps l
 unfolding into_answer kept_by
-into_refused cat s e ex = let r : (read_of cat s).answer ≡ by_number (Err e) = same_answer cat s ex in record { answer = rw r refl; parts = rw r refl; numbers = rw r refl }
+into_refused cat s ex {q} {p} ea = let r : (read_of cat s).answer ≡ Refused q p = same_answer cat s ex ∙ ea in record { answer = rw r ea; parts = rw r refl; numbers = rw r refl }
+
+pub into_err : (cat : ℕ) (s : List ℕ) (e : Refusal) → survey_by_number (Err e) ≡ survey_of cat s → {ps : List ℕ} {l : List ℤ} → ReadsInto (read_of cat s) ps l (by_number (Err e)) ps l
+into_err cat s e ex = into_refused cat s ex refl
 
 module _ {cat : ℕ} {s : List ℕ} {n : ℕ} (k : Accepts cat s n) where
   pub into_none : {ps : List ℕ} {l : List ℤ} → (length l ≡ SLOTS → ⊥) → ReadsInto (read_of cat s) ps l (Refused 11 0) ps l

@@ -5,11 +5,11 @@ use Rattle.compare.specs.Lines.{line_of}
 use Rattle.std.proofs.Math.Path.{refl, ap, ap₂, subst}
 use Rattle.std.proofs.Common.{sym, ◌∙◌, arith}
 use mathlib.Core.List.{List, ◌∷◌, ◌++◌}
-use Prim.Native.Nat.{ℕ, zero, suc, ◌+◌, ◌≤◌, ◌<◌}
+use Prim.Native.Nat.{ℕ, ◌+◌, ◌≤◌, ◌<◌}
 use borrow.Author.Tests.{eq-eqb, ne_eqb, le-leb, ltb-true, ltb-false}
 use Rattle.std.specs.Bool.{then_some}
 use Rattle.std.proofs.Math.Dec.{T}
-use Rattle.std.proofs.Math.ListN.{length, take, length-append, length-take}
+use Rattle.std.proofs.Math.ListN.{length, take, length-append, length-take, length-replicate}
 use Rattle.std.proofs.Math.Seq.{take-length, take-append_seam}
 use Rattle.codec.specs.Pick.{pick}
 use Rattle.codec.specs.Codec.{Octets}
@@ -30,9 +30,9 @@ use Rattle.scope.specs.Sheet.{key_line, decimal, sheet_of}
 use Rattle.scope.specs.Rebuilding.{category_given, octets_given}
 use Rattle.scope.proofs.Laws.Reading.{read_then_write, kept_made, afresh_octets}
 use Rattle.text.specs.declared.Text.{Text}
+use Rattle.text.specs.Typing.{Types}
 use Rattle.text.specs.Typed.{blank, Typed}
-use Rattle.text.specs.Laws.Typing.{types_as, types_behind}
-use Rattle.text.specs.Laws.Typed.{stands}
+use Rattle.text.specs.Laws.Typing.{types_as, types_behind, typed_front}
 use Rattle.text.specs.Laws.Decimals.{decimal_most}
 use Rattle.longest.proofs.Laws.Longest.{sheet_longest}
 use Rattle.guess.specs.Lines.{behind_feeds}
@@ -68,13 +68,22 @@ module _ (cat n len : ℕ) (r : Contents) where
       = λ m. length-append (cat_line cat) (len_line m ++ tail) ∙ ap (length (cat_line cat) +◌) (length-append (len_line m) tail) in
       omega (arith, e n, e len, line_length (text "len") (decimal n), line_length (text "len") (decimal len), decimal_most len)
 
-pub wrong_is : (cat len : ℕ) (s t : List ℕ) → Octets (cat ∷ s) → {b m1 m2 m3 : Text} {w x : List ℕ} → b ≡ blank → Typed (cat_line cat) b m1 → Typed (len_line len) m1 m2
+pub wrong_is : (cat len : ℕ) (s t : List ℕ) → Octets (cat ∷ s) → {b m1 m2 m3 w : List ℕ} {second third last : ℕ} → length b ≡ 4_096 → Types (cat_line cat) b 0 m1 second → Types (len_line len) m1 second m2 third
+    → w ≡ behind_feeds 2 (sheet_of (cat ∷ s)) → Types w m2 third m3 last → {k : ℕ} → k ≡ first_wrong 1 (take last m3) t
+    → (n : ℕ) (r : Contents) → sheet_of (cat ∷ s) ≡ sheet_with cat n r → k ≡ first_wrong 1 (sheet_with cat len r) t
+wrong_is cat len s t o {w = w} eb a c ew d ek n r e =
+    let short : length (sheet_with cat len r) ≤ 4_096 = omega (arith, exchanged-length cat n len r, ap length (sym e), sheet_longest (cat ∷ s) o) in
+    let x : cat_line cat ++ (len_line len ++ w) ≡ sheet_with cat len r = ap (λ u. cat_line cat ++ (len_line len ++ u)) (ew ∙ ap (behind_feeds 2) e) ∙ exchanged cat n len r in
+    ek ∙ ap (λ u. first_wrong 1 u t) (typed_front (sheet_with cat len r) short eb (types_as x (types_behind a (types_behind c d)))).1
+
+-- of a text that was blank
+pub wrong_typed : (cat len : ℕ) (s t : List ℕ) → Octets (cat ∷ s) → {b m1 m2 m3 : Text} {w x : List ℕ} → b ≡ blank → Typed (cat_line cat) b m1 → Typed (len_line len) m1 m2
     → w ≡ behind_feeds 2 (sheet_of (cat ∷ s)) → Typed w m2 m3 → x ≡ take m3.end m3.octets
     → (n : ℕ) (r : Contents) → sheet_of (cat ∷ s) ≡ sheet_with cat n r → first_wrong 1 x t ≡ first_wrong 1 (sheet_with cat len r) t
-wrong_is cat len s t o {w = w} eb a c ew d ex n r e =
-    let short : length (sheet_with cat len r) ≤ 4_096 = omega (arith, exchanged-length cat n len r, ap length (sym e), sheet_longest (cat ∷ s) o) in
-    let made : cat_line cat ++ (len_line len ++ w) ≡ sheet_with cat len r = ap (λ u. cat_line cat ++ (len_line len ++ u)) (ew ∙ ap (behind_feeds 2) e) ∙ exchanged cat n len r in
-    ap (λ u. first_wrong 1 u t) (stands (sheet_with cat len r) short eb (types_as made (types_behind a (types_behind c d))) ex)
+unfolding blank
+wrong_typed cat len s t o {m1 = m1} eb a c ew d ex =
+    let a' = subst (λ (b : Text). Types (cat_line cat) b.octets b.end m1.octets m1.end) eb a in
+    wrong_is cat len s t o (length-replicate {A = ℕ} 4_096 0) a' c ew d (ap (λ u. first_wrong 1 u t) ex)
 
 -- ---- the octets that are written
 

@@ -2,6 +2,7 @@
 use Rattle.std.specs.Prelude.{◌≡◌, Bool, true, false, List, [], ◌∷◌, ◌++◌, ℕ, ◌+◌, ◌≤◌, eqb, ℤ, length}
 use Rattle.std.proofs.Math.Path.{refl, sym, ap}
 use Rattle.std.proofs.Common.{ap₂, ◌∙◌, append-nil, arith}
+use borrow.Author.Tests.{ne_eqb}
 use Rattle.codec.specs.Pick.{pick}
 use Rattle.papers.specs.Names.{text, Key, hidden, shown, angle, pressure}
 use Rattle.layout.specs.Record.{number_at}
@@ -45,6 +46,10 @@ module _ (m : ℕ) (w : List ℕ) where
   meant_alone e = rw e refl
 
 -- ---- how many numbers
+
+pub slots_one : (m : ℕ) → (m ≡ 64 → ⊥) → (m ≡ 62 → ⊥) → 1 ≡ slots_in m
+unfolding slots_in
+slots_one m p a = rw (ne_eqb m 64 p, ne_eqb m 62 a) refl
 
 pub slots_few : (m : ℕ) → slots_in m ≤ 2
 unfolding slots_in
