@@ -65,12 +65,19 @@ half_small y = go (lt_z y (pos 0))
     go true = omega arith
     go false = omega arith
 
+-- what the code has of a step's number: 64 bits of it
+abbrev kept : ℤ → ℤ
+kept z = to_z w64 (of_z w64 z)
+
 module _ (x : ℤ) (k : ℕ) (f : SFits w32 x) (h : T (leb k 1_000_000)) where
   product_below : mag (x *ℤ pos k) ≤ 5_000_000_000_000_000
   product_below = omega (arith, product_small x k f h)
 
   product_fits : SFits w64 (x *ℤ pos k)
   product_fits = record { sfits = omega (arith, product_below) }
+
+  kept_product_below : mag (kept (x *ℤ pos k)) ≤ 5_000_000_000_000_000
+  kept_product_below = rw (to_z-of_z product_fits) product_below
 
   module _ (z : ℤ) (g : mag z ≤ 1_000_000) where
     sum_small : mag (x *ℤ pos k +ℤ z) ≤ 4_000_000_000_000_000
@@ -88,6 +95,9 @@ module _ (x : ℤ) (k : ℕ) (f : SFits w32 x) (h : T (leb k 1_000_000)) where
 
       back_fits : SFits w64 (quot_z (x *ℤ pos k +ℤ z) (pos 32_768) *ℤ pos m)
       back_fits = record { sfits = omega (arith, back_small) }
+
+      kept_back_small : mag (kept (kept (quot_z (kept (kept (x *ℤ pos k) +ℤ z)) (pos 32_768)) *ℤ pos m)) ≤ 5_000_000_000_000_000
+      kept_back_small = rw (to_z-of_z product_fits, to_z-of_z sum_fits, to_z-of_z quotient_fits, to_z-of_z back_fits) back_small
 
 -- either way round
 difference_fits : (y z : ℤ) → mag y ≤ 5_000_000_000_000_000 → mag z ≤ 5_000_000_000_000_000 → SFits w64 (y -ℤ z)
@@ -132,11 +142,7 @@ pub overflow_sub-result : goal.overflow_sub-result
 overflow_sub-result c =
     let n_is : to_z w64 (of_z w64 c.from-product.result) ≡ c.args.n = to_z-of_z {w = w64} (sfits_of c.from-product.type_inv) ∙ c.from-product.ensures ∙ to_z-of_z c.ranges.n in
     let half_is : to_z w64 (of_z w64 c.half.result) ≡ c.half.result = to_z-of_z {w = w64} (sfits_of c.half.type_inv) in
-    let n = c.args.n in
-    let f = c.ranges.n in
-    let h = c.half.result in
-    let g = half_size _ c.half.ensures in
-    rw (n_is, product_is n f h g, half_is, sum_is n f h g, quotient_is_whole n f h g, back_is n f h g) (left_fits n f h g)
+    rw (n_is, half_is) (search (difference_fits, kept_product_below, kept_back_small, c.ranges.n, half_size _ c.half.ensures))
 
 pub returns : goal.returns
 unfolding left_of

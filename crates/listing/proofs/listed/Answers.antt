@@ -47,7 +47,7 @@ pub slice_bounds-result-end : goal.slice_bounds-result-end
 slice_bounds-result-end c =
     let t = c.args.input.now in
     let s = fits t c.args.output.now (octets_all t (λ i. omega (arith, c.type_inv.input i))) c.requires c.sheet.ensures in
-    sym (length-take-le c.unwrap-len.result c.sheet.new.out (omega (arith, length_is s c.unwrap-len.ensures, s.within)))
+    omega (arith, length-take-le c.unwrap-len.result c.sheet.new.out (omega (arith, length_is s c.unwrap-len.ensures, s.within)))
 
 pub returns : goal.returns
 returns c =

@@ -71,7 +71,7 @@ loop-item-init c = (
 pub loop-item-preserved : goal.loop-item-preserved
 loop-item-preserved c = (
   omega arith,
-  λ r. turn c.args.cat r.what c.args.withheld c.loop-item.item (c.loop-item.invariant.1 r) (omega arith) (c.items_of-items.ensures) c.loop-item-test.true c.octet.ensures c.passed-kept.ensures,
+  λ r. turn c.args.cat r.what c.args.withheld c.loop-item.item (c.loop-item.invariant.1 r) (omega arith) c.items_of-items.ensures (omega arith) c.octet.ensures c.passed-kept.ensures,
 )
 
 pub returns : goal.returns
