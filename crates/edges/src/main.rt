@@ -109,8 +109,7 @@ fn read_worked_field(rt: &impl Print) {
 }
 
 fn ask(rt: &impl Print, line: &[u8]) {
-    let mut reply = Text::new();
-    requests::answer(line, &mut reply);
+    let reply = requests::reply(line);
     say(rt, line);
     say(rt, b" -> ");
     say(rt, reply.as_slice());

@@ -4,11 +4,11 @@
 
 ghost use Rattle.std.specs.Prelude.{◌≡◌, ◌∷◌};
 ghost use Rattle.papers.specs.Names.{text};
-ghost use Rattle.layout.specs.Answer.{reason_number, by_number, view_by_number, choice_by_number, reading_by_number, rebuilt_by_number};
 ghost use Rattle.text.specs.Typed.{Typed};
 ghost use Rattle.replies.specs.Texts.{bad_request, refusal_text, left_text, rebuilt_text, shown_text, view_text, choice_text, words_text, record_text, reading_text, in_line, line_octet, sheet_text};
+ghost use Rattle.replies.specs.Told.{as_told, told_answer, told_reading, told_view, told_choice, told_rebuilt};
 
-use layout::{Answer, Choice, Part, Reading, Rebuilt, Record, Refusal, View};
+use layout::{Part, Rebuilt, Record, Refusal, Which};
 use text::{Hex, Text, Word};
 
 // ---- words of an answer, each behind a space
@@ -16,7 +16,7 @@ use text::{Hex, Text, Word};
 fn next<W: Word>(value: W, reply: &mut Text)
     ensures { Typed (32 ∷ W.text_of value) reply.old reply.new }
 {
-    reply.octet(b' ');
+    reply.word(b" ");
     value.type_into(reply);
 }
 
@@ -30,6 +30,24 @@ fn words<W: Word + Copy>(values: &[W], reply: &mut Text)
 
 // ---- answers
 
+// A refusal as it is told: its number, which may be any, and its place.
+#[derive(Clone, Copy)]
+pub struct Told {
+    pub number: u8,
+    pub place: usize,
+}
+
+impl From<Refusal> for Told {
+    ghost from_gives = { λ refused result. result ≡ as_told refused };
+
+    fn from(refused: Refusal) -> Told {
+        Told {
+            number: u8::from(refused.reason),
+            place: refused.place,
+        }
+    }
+}
+
 pub fn bad_request(n: usize, reply: &mut Text)
     ensures { Typed (bad_request n) reply.old reply.new }
 {
@@ -37,12 +55,12 @@ pub fn bad_request(n: usize, reply: &mut Text)
     next(n, reply);
 }
 
-pub fn refusal(refused: Refusal, reply: &mut Text)
-    ensures { Typed (refusal_text (reason_number refused.reason) refused.place) reply.old reply.new }
+pub fn refusal(told: Told, reply: &mut Text)
+    ensures { Typed (refusal_text told.number told.place) reply.old reply.new }
 {
     reply.word(b"refused");
-    next(u8::from(refused.reason), reply);
-    next(refused.place, reply);
+    next(told.number, reply);
+    next(told.place, reply);
 }
 
 fn ok(reply: &mut Text)
@@ -52,21 +70,21 @@ fn ok(reply: &mut Text)
 }
 
 // The answer of an operation with an output, and what it left in the output's front.
-pub fn left(answer: Answer, out: &[u8], reply: &mut Text)
-    ensures { Typed (left_text (by_number answer) out.now) reply.old reply.new }
+pub fn left(answer: Result<usize, Told>, out: &[u8], reply: &mut Text)
+    ensures { Typed (left_text (told_answer answer) out.now) reply.old reply.new }
 {
     match answer {
         Ok(n) => {
             ok(reply);
             next(Hex(leaves::front(out, n)), reply);
         }
-        Err(refused) => refusal(refused, reply),
+        Err(told) => refusal(told, reply),
     }
 }
 
 // The same with the category in front of the octets.
-pub fn rebuilt_text(answer: Result<Rebuilt, Refusal>, out: &[u8], reply: &mut Text)
-    ensures { Typed (rebuilt_text (rebuilt_by_number answer).cat (rebuilt_by_number answer).answer out.now) reply.old reply.new }
+pub fn rebuilt_text(answer: Result<Rebuilt, Told>, out: &[u8], reply: &mut Text)
+    ensures { Typed (rebuilt_text (told_rebuilt answer).cat (told_rebuilt answer).answer out.now) reply.old reply.new }
 {
     match answer {
         Ok(rebuilt) => {
@@ -74,7 +92,7 @@ pub fn rebuilt_text(answer: Result<Rebuilt, Refusal>, out: &[u8], reply: &mut Te
             next(rebuilt.cat, reply);
             next(Hex(leaves::front(out, rebuilt.len)), reply);
         }
-        Err(refused) => refusal(refused, reply),
+        Err(told) => refusal(told, reply),
     }
 }
 
@@ -86,31 +104,31 @@ fn shown(at: Part, part: &[u8], reply: &mut Text)
     next(Hex(part), reply);
 }
 
-pub fn view_text(view: View, part: &[u8], reply: &mut Text)
-    ensures { Typed (view_text (view_by_number view) part.now) reply.old reply.new }
+pub fn view_text(view: Result<Part, Told>, part: &[u8], reply: &mut Text)
+    ensures { Typed (view_text (told_view view) part.now) reply.old reply.new }
 {
     match view {
         Ok(at) => {
             ok(reply);
             shown(at, part, reply);
         }
-        Err(refused) => refusal(refused, reply),
+        Err(told) => refusal(told, reply),
     }
 }
 
-pub fn choice_text(choice: Choice, part: &[u8], reply: &mut Text)
-    ensures { Typed (choice_text (choice_by_number choice) part.now) reply.old reply.new }
+pub fn choice_text(which: Which, view: Result<Part, Told>, part: &[u8], reply: &mut Text)
+    ensures { Typed (choice_text (told_choice which view) part.now) reply.old reply.new }
 {
-    let which = u8::from(choice.which);
-    match choice.view {
+    let number = u8::from(which);
+    match view {
         Ok(at) => {
             ok(reply);
-            next(which, reply);
+            next(number, reply);
             shown(at, part, reply);
         }
-        Err(refused) => {
-            refusal(refused, reply);
-            next(which, reply);
+        Err(told) => {
+            refusal(told, reply);
+            next(number, reply);
         }
     }
 }
@@ -126,16 +144,16 @@ fn record_text(kept: &Record, reply: &mut Text)
     words(&kept.numbers, reply);
 }
 
-pub fn reading_text(reading: Reading, reply: &mut Text)
-    ensures { Typed (reading_text (reading_by_number reading)) reply.old reply.new }
+pub fn reading_text(answer: Result<usize, Told>, kept: &Record, reply: &mut Text)
+    ensures { Typed (reading_text (told_reading answer kept.now)) reply.old reply.new }
 {
-    match reading.answer {
+    match answer {
         Ok(len) => {
             ok(reply);
             next(len, reply);
-            record_text(&reading.kept, reply);
+            record_text(kept, reply);
         }
-        Err(refused) => refusal(refused, reply),
+        Err(told) => refusal(told, reply),
     }
 }
 
@@ -163,6 +181,6 @@ pub fn sheet_text(sheet: &[u8], reply: &mut Text)
     ensures { Typed (sheet_text sheet.now) reply.old reply.new }
 {
     ok(reply);
-    reply.word(b" ");
+    reply.octet(b' ');
     line_words(leaves::front(sheet, sheet.len().saturating_sub(1)), reply);
 }

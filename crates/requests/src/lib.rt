@@ -3,17 +3,20 @@
 // their contracts.
 #![tactic(auto)]
 
-ghost use Rattle.std.specs.Prelude.{◌≡◌, ◌∷◌, ◌<◌, ◌≤◌, length};
+ghost use Rattle.std.specs.Prelude.{◌≡◌, ◌∷◌, ◌<◌, ◌≤◌, length, take};
 ghost use Rattle.scope.specs.Reading.{read_of};
 ghost use Rattle.scope.specs.Sheet.{sheet_of};
-ghost use Rattle.text.specs.Typed.{Typed};
+ghost use Rattle.text.specs.Typed.{blank, Typed};
 ghost use Rattle.words.specs.Numbers.{value_in};
 ghost use Rattle.hex_words.specs.Octets.{octets_in, list_in};
 ghost use Rattle.answers.specs.Answers.{listed, read_answer, write_answer, sheet_answer, view_answer, choose_answer, remove_answer, replace_answer, copy_answer, rebuild_answer, asked, answer_of};
 ghost use Rattle.protocol.specs.Requests.{number_of};
+ghost use Rattle.replies.specs.Told.{with_told};
 ghost use Rattle.requests.specs.Laws.Requests.{word_in, words_from};
 
+use layout::Refusal;
 use protocol::Request;
+use replies::Told;
 use text::Text;
 
 // A line that asks for something, and where its words start; its name is word 0.
@@ -66,6 +69,16 @@ impl<'a> Asked<'a> {
     }
 }
 
+// What an operation answered, with its refusal as replies tells it.
+fn told<T>(answer: Result<T, Refusal>) -> Result<T, Told>
+    ensures { result ≡ with_told answer }
+{
+    match answer {
+        Ok(given) => Ok(given),
+        Err(refused) => Err(Told::from(refused)),
+    }
+}
+
 // ---- a handler for each request, by the words of the line
 
 impl Asked<'_> {
@@ -75,7 +88,8 @@ impl Asked<'_> {
         let mut room = [0; 4096];
         let cat = self.small(1);
         let field = self.octets(2, &mut room);
-        replies::reading_text(reader::read(cat, field), reply);
+        let reading = reader::read(cat, field);
+        replies::reading_text(told(reading.answer), &reading.kept, reply);
     }
 
     fn write(&self, reply: &mut Text)
@@ -86,7 +100,7 @@ impl Asked<'_> {
         let out = self.output(1, &mut room);
         let kept = protocol::record_at(self.line, self.starts[2]);
         let answer = writer::write(kept, out);
-        replies::left(answer, out, reply);
+        replies::left(told(answer), out, reply);
     }
 
     fn sheet(&self, reply: &mut Text)
@@ -106,7 +120,7 @@ impl Asked<'_> {
         let field = self.octets(2, &mut room);
         let item = self.small(3);
         let view = views::view_answer(cat, field, item);
-        replies::view_text(view, views::view(cat, field, item), reply);
+        replies::view_text(told(view), views::view(cat, field, item), reply);
     }
 
     fn choose(&self, reply: &mut Text)
@@ -120,7 +134,7 @@ impl Asked<'_> {
         let item = self.small(4);
         let choice = views::choose_answer(cat, base, correction, item);
         let part = views::choose(cat, base, correction, item);
-        replies::choice_text(choice, part, reply);
+        replies::choice_text(choice.which, told(choice.view), part, reply);
     }
 
     fn remove(&self, reply: &mut Text)
@@ -134,7 +148,7 @@ impl Asked<'_> {
         let item = self.small(4);
         let out = self.output(5, &mut room_out);
         let answer = desk::remove(cat, field, list, item, out);
-        replies::left(answer, out, reply);
+        replies::left(told(answer), out, reply);
     }
 
     fn replace(&self, reply: &mut Text)
@@ -150,7 +164,7 @@ impl Asked<'_> {
         let new = self.octets(5, &mut room_new);
         let out = self.output(6, &mut room_out);
         let answer = desk::replace(cat, field, list, item, new, out);
-        replies::left(answer, out, reply);
+        replies::left(told(answer), out, reply);
     }
 
     fn copy(&self, reply: &mut Text)
@@ -163,7 +177,7 @@ impl Asked<'_> {
         let withheld = self.list(3);
         let out = self.output(4, &mut room_out);
         let answer = visitors::copy(cat, field, withheld, out);
-        replies::left(answer, out, reply);
+        replies::left(told(answer), out, reply);
     }
 
     fn rebuild(&self, reply: &mut Text)
@@ -174,7 +188,7 @@ impl Asked<'_> {
         let text = self.octets(1, &mut room);
         let out = self.output(2, &mut room_out);
         let rebuilt = rebuild::rebuild(text, out);
-        replies::rebuilt_text(rebuilt, out, reply);
+        replies::rebuilt_text(told(rebuilt), out, reply);
     }
 
     fn answer(&self, request: Request, reply: &mut Text)
@@ -206,7 +220,7 @@ fn listed(cat: u8, field: &[u8], reply: &mut Text)
             sheet::listed(cat, field, &mut sheet);
             replies::sheet_text(sheet.as_slice(), reply);
         }
-        Err(refused) => replies::refusal(refused, reply),
+        Err(refused) => replies::refusal(Told::from(refused), reply),
     }
 }
 
@@ -226,4 +240,14 @@ pub fn answer(line: &[u8], reply: &mut Text)
         Err(wrong) => replies::bad_request(wrong, reply),
     }
     reply.line_end();
+}
+
+// The same in a text of its own, all of it.
+pub fn reply(line: &[u8]) -> Text
+    ensures typed { Typed (answer_of line.now) blank result }
+    ensures whole { take result.end result.octets ≡ answer_of line.now }
+{
+    let mut reply = Text::new();
+    answer(line, &mut reply);
+    reply
 }

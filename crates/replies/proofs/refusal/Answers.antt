@@ -5,4 +5,4 @@ use Rattle.replies.proofs.refusal.Goals as goal
 
 pub returns : goal.returns
 unfolding next refusal_text
-returns c = types_behind c.word.ensures (types_behind (rw c.from.ensures at c.next.ensures) c.next-2.ensures)
+returns c = types_behind c.word.ensures (types_behind c.next.ensures c.next-2.ensures)

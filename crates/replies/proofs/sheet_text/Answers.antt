@@ -3,4 +3,4 @@ use Rattle.replies.specs.Laws.Typed.{sheet_typed}
 use Rattle.replies.proofs.sheet_text.Goals as goal
 
 pub returns : goal.returns
-returns c = sheet_typed c.args.sheet.now c.saturating_sub.ensures c.front.ensures c.ok.ensures c.word.ensures c.line_words.ensures
+returns c = sheet_typed c.args.sheet.now c.saturating_sub.ensures c.front.ensures c.ok.ensures c.octet.ensures c.line_words.ensures

@@ -16,4 +16,4 @@ returns-in-Ok c =
 
 pub returns-in-Err : goal.returns-in-Err
 returns-in-Err c =
-    listed_refused _ (ap (λ (x : Reading). x.answer) (sym c.read-reading.ensures) ∙ ap by_number c.in-Err.is) c.refusal.ensures
+    listed_refused _ (ap (λ (x : Reading). x.answer) (sym c.read-reading.ensures) ∙ ap by_number c.in-Err.is) (rw c.from.ensures at c.refusal.ensures)

@@ -1,4 +1,5 @@
 -- `requests::Asked::remove` meets its contract: each word by its kind, and the edit. Assumes nothing.
+use Rattle.replies.specs.Laws.Told.{left_told}
 use Rattle.replies.specs.Laws.Typed.{types_left}
 use Rattle.requests.specs.Laws.Requests.{word_in, remove_said}
 use Rattle.requests.proofs.Asked.remove.Goals as goal
@@ -6,4 +7,4 @@ use Rattle.requests.proofs.Asked.remove.Goals as goal
 pub returns : goal.returns
 returns c =
     let a = c.args.self.now in
-    remove_said (word_in a.line.now a.starts.now) c.small-cat.ensures c.octets-field.ensures c.list-list.ensures c.small-item.ensures c.output-out.ensures (types_left c.remove-answer.ensures c.left.ensures)
+    remove_said (word_in a.line.now a.starts.now) c.small-cat.ensures c.octets-field.ensures c.list-list.ensures c.small-item.ensures c.output-out.ensures (types_left c.remove-answer.ensures (left_told c.remove-answer.result _ c.told.ensures c.left.ensures))
