@@ -1,6 +1,6 @@
 -- `sheet::row` meets its contract: each item at its spot, and the rest of the row behind it. Assumes nothing.
 use Rattle.text.specs.Laws.Typing.{types_as}
-use Rattle.sheet.specs.Laws.Rows.{row_begins, row_ends, row_okay_on, row_on}
+use Rattle.sheet.specs.Laws.Rows.{row_begins, row_ends, row_okay_on, row_next}
 use Rattle.sheet.proofs.row.Goals as goal
 
 pub place-requires : goal.place-requires
@@ -14,7 +14,7 @@ loop-i-preserved c =
     let l = c.loop-i in (
       (row_okay_on a.kept.now a.first a.n l.i c.loop-i-test.true l.invariant.0).1,
       λ v r.
-          l.invariant.1 v (row_on a.kept.now a.first a.n l.i c.loop-i-test.true l.invariant.0 c.present-there.ensures c.place.ensures r),
+          l.invariant.1 v (row_next a.kept.now a.first a.n l.i c.loop-i-test.true l.invariant.0 c.present-there.ensures c.place.ensures r),
     )
 
 pub returns : goal.returns

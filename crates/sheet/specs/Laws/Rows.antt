@@ -42,6 +42,26 @@ module _ (k n : ℕ) (ns : List ℤ) {t : Bool} where
   pub place_not : t ≡ false → (l : List ℕ) (at : ℕ) → Types (place_text k t n ns) l at l at
   place_not e l at = types_as (ap (λ x. pick x (item_text (item_on k) (named_on k) (n, numbers_on k ns)) []) (sym e)) (types_none l at)
 
+-- ---- the ways out of a row
+
+module _ (ds ps : List ℕ) (ns : List ℤ) (k i left : ℕ) where
+  pub row_end : left ≡ 0 → (l : List ℕ) (at : ℕ) → Types (row_text (drop i ds) (items_from k left) (names_from k left) (held_from k left i ps ns)) l at l at
+  unfolding row_text items_from
+  row_end e l at = rw e (types_none l at)
+
+  pub row_on : (left ≡ 0 → ⊥) → T (row_ok k left) → {t : Bool} → t ≡ eqb (get_or ds i 0) 1 → {l m : List ℕ} {at next : ℕ} → Types (place_text k t (get_or ps i 0) ns) l at m next
+      → {q : List ℕ} {last : ℕ} → Types (row_text (drop (i + 1) ds) (items_from (k + 1) (left - 1)) (names_from (k + 1) (left - 1)) (held_from (k + 1) (left - 1) (i + 1) ps ns)) m next q last
+      → Types (row_text (drop i ds) (items_from k left) (names_from k left) (held_from k left i ps ns)) l at q last
+  unfolding row_text uncons
+  row_on some ok {t} et a r =
+      let its : List Item = items_from (k + 1) (left - 1) in
+      let nms : List Named = names_from (k + 1) (left - 1) in
+      let vs : List Held = held_from (k + 1) (left - 1) (i + 1) ps ns in
+      let v : Held = (get_or ps i 0, numbers_on k ns) in
+      types_as (ap₂ (λ b d. pick b (item_text (item_on k) (named_on k) v) [] ++ row_text d its nms vs) (et ∙ ap (λ x. eqb x 1) (sym (first_drop i ds))) (sym (next_drop i ds))
+      ∙ ap₂ (λ x y. row_text (drop i ds) x y (v ∷ vs)) (sym (items_on k left some)) (sym (names_on k left some))
+      ∙ ap (row_text (drop i ds) (items_from k left) (names_from k left)) (sym (held_on k left some ok i ps ns))) (types_behind a r)
+
 -- ---- the way through `row`: what is left of it from item i on
 
 abbrev pub row_rest : Record → ℕ → ℕ → ℕ → List ℕ
@@ -55,8 +75,7 @@ module _ (f : Record) (first n : ℕ) where
       ap₂ (λ k m. row_text (flags f.items) (items_from k m) (names_from k m) (held_from k m 0 f.parts f.numbers)) ek en
 
   pub row_ends : (i : ℕ) → n ≤ i → (l : List ℕ) (at : ℕ) → Types (row_rest f first n i) l at l at
-  unfolding row_text items_from
-  row_ends i h l at = let e : n - i ≡ 0 = omega arith in rw e (types_none l at)
+  row_ends i h = row_end (flags f.items) f.parts f.numbers (first + i) i (n - i) (omega arith)
 
   module _ (i : ℕ) (h : i < n) (ok : T (row_ok (first + i) (n - i))) where
     some : n - i ≡ 0 → ⊥
@@ -69,24 +88,13 @@ module _ (f : Record) (first n : ℕ) where
         let en : n - i - 1 ≡ n - (i + 1) = omega arith in
         (r.0, rw (ek, en) at r.1)
 
-    pub row_on : {t : Bool} → t ≡ eqb (get_or (flags f.items) i 0) 1 → {l m : List ℕ} {at next : ℕ} → Types (place_text (first + i) t (get_or f.parts i 0) f.numbers) l at m next
+    pub row_next : {t : Bool} → t ≡ eqb (get_or (flags f.items) i 0) 1 → {l m : List ℕ} {at next : ℕ} → Types (place_text (first + i) t (get_or f.parts i 0) f.numbers) l at m next
         → {q : List ℕ} {last : ℕ} → Types (row_rest f first n (i + 1)) m next q last → Types (row_rest f first n i) l at q last
-    unfolding row_text uncons
-    row_on {t} et {m = m} {next = next} a {q} {last} r =
-        let k : ℕ = first + i in
-        let left : ℕ = n - i in
-        let ds : List ℕ = flags f.items in
-        let ek : first + (i + 1) ≡ k + 1 = omega arith in
-        let en : n - (i + 1) ≡ left - 1 = omega arith in
-        let its : List Item = items_from (k + 1) (left - 1) in
-        let nms : List Named = names_from (k + 1) (left - 1) in
-        let vs : List Held = held_from (k + 1) (left - 1) (i + 1) f.parts f.numbers in
-        let v : Held = (get_or f.parts i 0, numbers_on k f.numbers) in
-        let r' : Types (row_text (drop (i + 1) ds) its nms vs) m next q last
-        = types_as (ap₂ (λ j x. row_text (drop (i + 1) ds) (items_from j x) (names_from j x) (held_from j x (i + 1) f.parts f.numbers)) ek en) r in
-        types_as (ap₂ (λ b d. pick b (item_text (item_on k) (named_on k) v) [] ++ row_text d its nms vs) (et ∙ ap (λ x. eqb x 1) (sym (first_drop i ds))) (sym (next_drop i ds))
-        ∙ ap₂ (λ x y. row_text (drop i ds) x y (v ∷ vs)) (sym (items_on k left some)) (sym (names_on k left some))
-        ∙ ap (row_text (drop i ds) (items_from k left) (names_from k left)) (sym (held_on k left some ok i f.parts f.numbers))) (types_behind a r')
+    row_next et a r =
+        let ek : first + (i + 1) ≡ first + i + 1 = omega arith in
+        let en : n - (i + 1) ≡ n - i - 1 = omega arith in
+        row_on (flags f.items) f.parts f.numbers (first + i) i (n - i) some ok et a
+        (types_as (ap₂ (λ k left. row_text (drop (i + 1) (flags f.items)) (items_from k left) (names_from k left) (held_from k left (i + 1) f.parts f.numbers)) ek en) r)
 
 pub comma_none : {b : Bool} → b ≡ true → (l : List ℕ) (at : ℕ) → Types (comma_of b) l at l at
 unfolding comma_of
@@ -95,6 +103,30 @@ comma_none e l at = types_as (ap comma_of (sym e)) (types_none l at)
 pub comma_there : {b : Bool} → b ≡ false → {l m : List ℕ} {at next : ℕ} → Types (44 ∷ []) l at m next → Types (comma_of b) l at m next
 unfolding comma_of
 comma_there e a = types_as (ap comma_of (sym e)) a
+
+-- ---- the ways out of the line of names
+
+module _ (first : Bool) (ds : List ℕ) (k i left : ℕ) where
+  pub names_end : left ≡ 0 → (l : List ℕ) (at : ℕ) → Types (items_text (comma_of first) (drop i ds) (names_from k left)) l at l at
+  unfolding items_text names_from
+  names_end e l at = rw e (types_none l at)
+
+  module _ (some : left ≡ 0 → ⊥) {t : Bool} (et : t ≡ eqb (get_or ds i 0) 1) where
+    abbrev rest : Bool → List ℕ
+    rest b = items_text (comma_of b) (drop (i + 1) ds) (names_from (k + 1) (left - 1))
+
+    step : items_text (comma_of first) (drop i ds) (names_from k left) ≡ pick t (comma_of first ++ ((named_on k).name ++ rest false)) (rest first)
+    unfolding items_text comma_of
+    step =
+        ap (items_text (comma_of first) (drop i ds)) (names_on k left some)
+        ∙ ap₂ (λ b d. pick b (comma_of first ++ ((named_on k).name ++ items_text (text ",") d (names_from (k + 1) (left - 1)))) (items_text (comma_of first) d (names_from (k + 1) (left - 1)))) (ap (λ x. eqb x 1) (first_drop i ds) ∙ sym et) (next_drop i ds)
+
+    pub names_there : t ≡ true → {l m q u : List ℕ} {at next last end : ℕ} → Types (comma_of first) l at m next → Types (named_on k).name m next q last → Types (rest false) q last u end
+        → Types (items_text (comma_of first) (drop i ds) (names_from k left)) l at u end
+    names_there e a b r = types_as (ap (λ x. pick x (comma_of first ++ ((named_on k).name ++ rest false)) (rest first)) (sym e) ∙ sym step) (types_behind a (types_behind b r))
+
+    pub names_not : t ≡ false → {l m : List ℕ} {at next : ℕ} → Types (rest first) l at m next → Types (items_text (comma_of first) (drop i ds) (names_from k left)) l at m next
+    names_not e r = types_as (ap (λ x. pick x (comma_of first ++ ((named_on k).name ++ rest false)) (rest first)) (sym e) ∙ sym step) r
 
 -- ---- the way through `names`: what is left of the line from item i on, where no name stands yet or one does
 
@@ -109,28 +141,22 @@ module _ (items first n : ℕ) where
       ap₂ (λ k m. items_text (comma_of true) (flags items) (names_from k m)) ek en
 
   module _ (none_yet : Bool) (i : ℕ) where
-    pub names_end : n ≤ i → (l : List ℕ) (at : ℕ) → Types (names_rest items first n none_yet i) l at l at
-    unfolding items_text names_from
-    names_end h l at = let e : n - i ≡ 0 = omega arith in rw e (types_none l at)
+    pub names_ends : n ≤ i → (l : List ℕ) (at : ℕ) → Types (names_rest items first n none_yet i) l at l at
+    names_ends h = names_end none_yet (flags items) (first + i) i (n - i) (omega arith)
 
     module _ (h : i < n) {t : Bool} (et : t ≡ eqb (get_or (flags items) i 0) 1) where
-      step : names_rest items first n none_yet i ≡ pick t (comma_of none_yet ++ ((named_on (first + i)).name ++ names_rest items first n false (i + 1))) (names_rest items first n none_yet (i + 1))
-      unfolding items_text comma_of
-      step =
-          let ds : List ℕ = flags items in
-          let k : ℕ = first + i in
-          let some : n - i ≡ 0 → ⊥ = λ e. omega arith in
-          let ek : k + 1 ≡ first + (i + 1) = omega arith in
-          let en : n - i - 1 ≡ n - (i + 1) = omega arith in
-          ap (items_text (comma_of none_yet) (drop i ds)) (names_on k (n - i) some ∙ ap₂ (λ j x. named_on k ∷ names_from j x) ek en)
-          ∙ ap₂ (λ b d. pick b (comma_of none_yet ++ ((named_on k).name ++ items_text (text ",") d (names_from (first + (i + 1)) (n - (i + 1))))) (items_text (comma_of none_yet) d (names_from (first + (i + 1)) (n - (i + 1))))) (ap (λ x. eqb x 1) (first_drop i ds) ∙ sym et) (next_drop i ds)
+      behind : (b : Bool) → names_rest items first n b (i + 1) ≡ items_text (comma_of b) (drop (i + 1) (flags items)) (names_from (first + i + 1) (n - i - 1))
+      behind b =
+          let ek : first + (i + 1) ≡ first + i + 1 = omega arith in
+          let en : n - (i + 1) ≡ n - i - 1 = omega arith in
+          ap₂ (λ k left. items_text (comma_of b) (drop (i + 1) (flags items)) (names_from k left)) ek en
 
-      pub names_there : t ≡ true → {l m q u : List ℕ} {at next last end : ℕ} → Types (comma_of none_yet) l at m next → Types (named_on (first + i)).name m next q last → Types (names_rest items first n false (i + 1)) q last u end
+      pub name_there : t ≡ true → {l m q u : List ℕ} {at next last end : ℕ} → Types (comma_of none_yet) l at m next → Types (named_on (first + i)).name m next q last → Types (names_rest items first n false (i + 1)) q last u end
           → Types (names_rest items first n none_yet i) l at u end
-      names_there e a b r = types_as (ap (λ x. pick x (comma_of none_yet ++ ((named_on (first + i)).name ++ names_rest items first n false (i + 1))) (names_rest items first n none_yet (i + 1))) (sym e) ∙ sym step) (types_behind a (types_behind b r))
+      name_there e a b r = names_there none_yet (flags items) (first + i) i (n - i) (λ z. omega arith) et e a b (types_as (behind false) r)
 
-      pub names_not : t ≡ false → {l m : List ℕ} {at next : ℕ} → Types (names_rest items first n none_yet (i + 1)) l at m next → Types (names_rest items first n none_yet i) l at m next
-      names_not e r = types_as (ap (λ x. pick x (comma_of none_yet ++ ((named_on (first + i)).name ++ names_rest items first n false (i + 1))) (names_rest items first n none_yet (i + 1))) (sym e) ∙ sym step) r
+      pub name_not : t ≡ false → {l m : List ℕ} {at next : ℕ} → Types (names_rest items first n none_yet (i + 1)) l at m next → Types (names_rest items first n none_yet i) l at m next
+      name_not e r = names_not none_yet (flags items) (first + i) i (n - i) (λ z. omega arith) et e (types_as (behind none_yet) r)
 
 -- ---- the ways out of `name`
 
