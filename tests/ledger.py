@@ -14,6 +14,7 @@ import re
 import resource
 import subprocess
 import sys
+from collections import namedtuple
 from functools import cache
 from pathlib import Path
 
@@ -142,7 +143,7 @@ def refused_in(crate, name, log):
     if not found:
         return ""
     file, line = found[1], int(found[2])
-    inside = [item for module, item, _, at, _ in items_of(crate) if file == f"src/{module}.rt" and at < line][-1:]
+    inside = [item.name for item in items_of(crate) if file == f"src/{item.module}.rt" and item.at < line][-1:]
     goal = re.match(r"error: `([^`]+)`", found[3]) or re.search(r"\(`([^`]+)`\)", found[3])
     named = [re.sub(r"/(Answers|Invariants|Proof)\.antt$", "", file), *inside, *(goal.groups() if goal else ())]
     return ", ".join(f"`{it}`" for it in named)
@@ -163,10 +164,16 @@ DOORS = {"exports", "exports_c"}
 
 ITEM = re.compile(r" *(pub )?(?:extern \"C\" )?(?:fn|const|static) (\w+)")
 
+# the head of a block of items: the trait, and the type that has them
+BLOCK = re.compile(r"(?:pub )?trait (\w+)|impl(?:<[^>]*>)? (?:(?:\w+::)*(\w+)(?:<.*?>)? for )?[^\w]*(?:\w+::)*(\w+)")
+
+# a function, constant or method: its module, its type and trait where it has them, its name, whether it is a public function
+# of the root, its first line, which is that of its attribute where it has one, and its text
+Item = namedtuple("Item", "module type trait name public at text")
+
 
 def items_of(crate):
-    """The functions and constants of a crate's source: module, name, whether it is a public function of the root, first
-    line, which is that of its attribute where it has one, and text."""
+    """The functions and constants of a crate's source."""
     found = []
     for file in sorted((ROOT / "crates" / crate / "src").rglob("*.rt")):
         lines = file.read_text().splitlines()
@@ -174,25 +181,39 @@ def items_of(crate):
         heads = [(at - lines[at - 1].lstrip().startswith("#["), head) for at, head in heads if head] + [(len(lines), None)]
         for (at, head), (end, _) in zip(heads, heads[1:]):
             public = bool(head[1]) and "fn " in head[0] and file.name == "lib.rt"
-            found.append((file.stem, head[2], public, at, "\n".join(lines[at:end])))
+            found.append(Item(file.stem, *block_of(lines[: at + 1]), head[2], public, at, "\n".join(lines[at:end])))
     return found
+
+
+def block_of(lines):
+    """The type and the trait of the block that the last of these lines stands in."""
+    for line in reversed(lines if lines[-1].startswith(" ") else []):
+        if line == "}":
+            break
+        if block := BLOCK.match(line):
+            return block[3], block[1] or block[2]
+    return None, None
+
+
+def structs_of(crate):
+    """The text of each struct of a crate's source."""
+    sources = [file.read_text() for file in (ROOT / "crates" / crate / "src").rglob("*.rt")]
+    return {name: text for source in sources for text, name in re.findall(r"^((?:pub )?struct (\w+)[^;{]*(?:;|\{.*?^\}))", source, re.M | re.S)}
 
 
 def wrong_programs(crate, edits):
     """Each public function of a crate, and the edits of the items that it comes to by calls and constants, itself
     among them."""
-    items = items_of(crate)
-    modules = {module for module, *_ in items}
-    named = {}
-    for module, name, _, _, text in items:
-        named.setdefault((module, name), set()).update(names_in(module, text, modules))
+    items, structs = items_of(crate), structs_of(crate)
+    named = {item: names_in(item, items, structs) for item in items}
     touched = {}
     for edit in edits:
         for file, line in changed_lines(crate, edit):
-            inside = [(module, name) for module, name, _, at, _ in items if module == file.stem and at <= line]
+            inside = [item for item in items if item.module == file.stem and item.at <= line]
             touched.setdefault(inside[-1], []).append(edit.stem)
-    return {name: list(dict.fromkeys(edit for item in sorted(reached((module, name), named)) for edit in touched.get(item, [])))
-            for module, name, public, *_ in items if public}
+    order = lambda it: (it.module, it.name, it.at)
+    return {item.name: list(dict.fromkeys(edit for it in sorted(reached(item, named), key=order) for edit in touched.get(it, [])))
+            for item in items if item.public}
 
 
 def changed_lines(crate, edit):
@@ -210,20 +231,53 @@ def changed_lines(crate, edit):
     return found
 
 
-def names_in(module, text, modules):
-    """The crate's own functions that are called in an item of a module, and the constants and methods that stand in it, of
-    whatever module."""
-    code = re.sub(r"//.*", "", text)
-    calls = re.findall(r"(?<![.\w:])(?:(\w+)::)?(\w+)\(", code)
-    anywhere = re.findall(r"\b[A-Z][A-Z_0-9]+\b|(?<=\.)\w+(?=\()|(?<=::)\w+(?=\()", code)
-    return {(place or module, name) for place, name in calls} | {(place, name) for place in modules for name in anywhere}
+def names_in(item, items, structs):
+    """The items of the crate that one of them calls or looks up. A path says whose each is; without one a function is of
+    the item's own module, and a constant of any. A method is of each type that the receiver may have: the item's own
+    for `self`, else one that the item, the struct whose method it is, or the result of what it calls names, itself or by
+    its trait."""
+    code = re.sub(r"//.*", "", item.text)
+    modules = {other.module for other in items}
+    calls = re.findall(r"(?<![\w:])(?<![^.]\.)(?<!fn )((?:\w+::)*)(\w+)(?=\()", code)
+    constants = re.findall(r"(?<![\w:])(?<![^.]\.)((?:\w+::)*)([A-Z][A-Z_0-9]+)\b", code)
+    found = set()
+    for path, name in calls + constants:
+        place = path.split("::")[-2] if path else None
+        named = {it for it in items if it.name == name}
+        if place in modules:
+            found |= {it for it in named if it.module == place and not it.type and not it.trait}
+        elif place:
+            found |= {it for it in named if (item.type if place == "Self" else place) in (it.type, it.trait)}
+        else:
+            found |= {it for it in named if not it.type and not it.trait and (name.isupper() or it.module == item.module)}
+    words = set(re.findall(r"\w+", code + structs.get(item.type, "")))
+    receivers = re.findall(r"(?:(?<![\w.])(self))?\.(\w+)(?=\()", code)
+    while True:
+        words |= {word for it in found for word in re.findall(r"\w+", result_of(it))}
+        more = found | {it for receiver, name in receivers for it in methods_of(item, receiver, name, items, words)}
+        if more == found:
+            return found
+        found = more
 
 
-def reached(name, named):
-    seen, new = set(), {name}
+def methods_of(item, receiver, name, items, words):
+    """The methods of a name that a receiver in an item may have, and where that is `self` and its type has one, that."""
+    methods = {it for it in items if it.name == name and (it.type or it.trait)}
+    own = {it for it in methods if receiver and it.type == item.type}
+    return own or {it for it in methods if {it.type, it.trait} & words}
+
+
+def result_of(item):
+    """The type that a function returns."""
+    head = re.search(r"\bfn .*?\)(?: -> (.*?))?(?: \{)?$", item.text, re.M)
+    return head and head[1] or ""
+
+
+def reached(item, named):
+    seen, new = set(), {item}
     while new:
         seen |= new
-        new = {other for item in new for other in named.get(item, ())} - seen
+        new = {other for one in new for other in named[one]} - seen
     return seen
 
 

@@ -19,7 +19,7 @@ use Rattle.arrays.proofs.write_array.Goals as goal
 tested : {z : ℤ} {o : ℕ} {b t : Bool} → SFits w32 z → o ≡ octet_of (to_z w32 (of_z w32 z)) → t ≡ known o → t ≡ b → known (octet_of z) ≡ b
 tested f eo et h = sym (et ∙ ap known (eo ∙ ap octet_of (to_z-of_z {w = w32} f))) ∙ h
 
--- where some of the numbers are no octets, all of them are not
+-- where the last of some numbers are not all octets, those numbers are not
 among : (k n m : ℕ) (zs : List ℤ) → k + n ≡ m → are_octets (take n (drop k zs)) ≡ false → are_octets (take m zs) ≡ false
 unfolding are_octets
 among zero n m zs e h = let p : n ≡ m = omega arith in rw p at h
@@ -28,6 +28,7 @@ among (suc k) zero (suc m) [] e h = h
 among (suc k) (suc n) (suc m) [] e h = h
 among (suc k) n (suc m) (z ∷ zs) e h = rw (among k n m zs (omega arith) h) (and-false (is_octet z))
 
+-- and so it is with the nine behind an array's first number, of whichever of them the last were tried
 behind_first : (k n : ℕ) (a : List ℤ) {b : Bool} → b ≡ are_octets (take n (drop k a)) → b ≡ false → 1 ≤ k → k + n ≡ 10 → are_octets (take 9 (drop 1 a)) ≡ false
 unfolding are_octets
 behind_first zero n a g h l e = absurd (omega arith)
