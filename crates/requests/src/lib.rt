@@ -243,6 +243,7 @@ pub fn answer(line: &[u8], reply: &mut Text)
 }
 
 // The answer to a line in a text of its own, all of it.
+#[tactic(auto, unfolding(text::specs::Typed::blank))]
 pub fn reply(line: &[u8]) -> Text
     ensures typed { Typed (answer_of line.now) blank result }
     ensures whole { take result.end result.octets ≡ answer_of line.now }
