@@ -1,6 +1,6 @@
 // Answers a line of the co-process (docs/PROTOCOL.md): the parser says which request it is and where its words start, and a handler answers by the words.
-// Promises: for every line the answer that the protocol defines. Stands on protocol, words and replies, and on the operations, which it knows by
-// their contracts.
+// Promises: for every line the answer that the protocol defines, and of `reply` that all of it is there. Stands on protocol, words and replies, and on
+// the operations, which it knows by their contracts.
 #![tactic(auto)]
 
 ghost use Rattle.std.specs.Prelude.{◌≡◌, ◌∷◌, ◌<◌, ◌≤◌, length, take};
@@ -242,7 +242,8 @@ pub fn answer(line: &[u8], reply: &mut Text)
     reply.line_end();
 }
 
-// The same in a text of its own, all of it.
+// The answer to a line in a text of its own, all of it.
+#[tactic(auto, unfolding(text::specs::Typed::blank))]
 pub fn reply(line: &[u8]) -> Text
     ensures typed { Typed (answer_of line.now) blank result }
     ensures whole { take result.end result.octets ≡ answer_of line.now }

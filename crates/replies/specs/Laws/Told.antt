@@ -1,4 +1,4 @@
--- A result of the operations is the same answer told as by its numbers, so what its answer is told by is typed.
+-- A result of the operations is the same answer by its refusal as told and by its reason's number, so where the one is typed the other is.
 use Rattle.std.specs.Prelude.{◌≡◌, refl, List, ℕ, Result, Ok, Err}
 use Rattle.std.proofs.Common.{subst, ◌∙◌}
 use Rattle.std.proofs.Math.Path.{ap}

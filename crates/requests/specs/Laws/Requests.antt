@@ -1,6 +1,6 @@
 -- One law for each way through the handlers.
 use Rattle.std.specs.Prelude.{◌≡◌, refl, Bool, true, false, List, [], ◌∷◌, ℕ, ◌≤◌, ◌<◌, ltb, length, get_or, take, replicate, Ok, Err}
-use Rattle.std.proofs.Common.{sym, ◌∙◌, subst, arith}
+use Rattle.std.proofs.Common.{sym, ◌∙◌, arith}
 use Rattle.std.proofs.lemmas.List.{length-replicate}
 use Rattle.std.proofs.Math.Path.{ap}
 use borrow.Author.Tests.{ltb-false, ne_eqb}
@@ -150,9 +150,9 @@ module _ (line : List ℕ) {p : Parsed} (ep : p ≡ parsed (parse_of line)) wher
   answer_wrong n e x y = let j : (parse_of line).judged ≡ Wrong n = wrong_told line n (ap (λ (x : Parsed). x.judged) (sym ep) ∙ e) in rw j (types_behind x y)
 
 -- a text that was blank holds the whole answer
-pub answer_held : (line : List ℕ) {t t' : Text} → t ≡ blank → Typed (answer_of line) t t' → take t'.end t'.octets ≡ answer_of line
+pub answer_held : (line : List ℕ) {t : Text} → Typed (answer_of line) blank t → take t.end t.octets ≡ answer_of line
 unfolding blank
-answer_held line {t} {t'} e a = (answer_whole line (length-replicate {A = ℕ} 4_096 0) (subst (λ (x : Text). Typed (answer_of line) x t') e a)).1
+answer_held line a = (answer_whole line (length-replicate {A = ℕ} 4_096 0) a).1
 
 -- the record of a request
 pub record_is : (line : List ℕ) (at : ℕ) → length line ≤ 16_384 → {f : Record} → f ≡ record_at line at → f ≡ record_in (words_at line at)
