@@ -355,7 +355,7 @@ def page(edits, log):
     print("# Wrong programs\n")
     count = sum(len(found) for found in edits.values())
     print(f"{count} wrong programs, tried by `rt ci` at every run: each is the program with one or two lines changed "
-          "to the same shape with another operand, and each is refused.")
+          "to the same shape with another operand, or a call of std that has no such operand to what does the same but for the fact. Each is refused.")
     print("The table says what was changed, the fact that no longer holds, and where the check first fails. "
           "`python3 tests/ledger.py` makes this page from the edits and from what a run of `rt` said of them.")
     print("A wrong line counts for every public function that runs it or looks it up: each of them has two or more, a "
