@@ -109,7 +109,8 @@ fn read_worked_field(rt: &impl Print) {
 }
 
 fn ask(rt: &impl Print, line: &[u8]) {
-    let reply = requests::reply(line);
+    let mut reply = Text::new();
+    requests::reply(line, &mut reply);
     say(rt, line);
     say(rt, b" -> ");
     say(rt, reply.as_slice());

@@ -10,6 +10,7 @@ ghost use Rattle.refdesk.specs.Turns.{Takes};
 use lines::Line;
 use std::fmt;
 use std::io::Read;
+use text::Text;
 
 // What failed where the program ends before its input does.
 #[derive(Clone, Copy)]
@@ -75,6 +76,7 @@ fn take_in(rt: &impl Print, octets: &[u8], line: &mut Line<'_>) -> Result<(), Fa
 
 // Answers the line whose octets are held.
 fn answered(rt: &impl Print, line: &Line<'_>) -> Result<(), Failure> {
-    let reply = requests::reply(leaves::front(line.octets, line.held));
+    let mut reply = Text::new();
+    requests::reply(leaves::front(line.octets, line.held), &mut reply);
     rt.write_all(reply.as_slice()).map_err(|_| Failure::Writing)
 }

@@ -6,7 +6,8 @@
 ghost use Rattle.std.specs.Prelude.{◌≡◌, ◌∷◌, ◌<◌, ◌≤◌, length, take};
 ghost use Rattle.scope.specs.Reading.{read_of};
 ghost use Rattle.scope.specs.Sheet.{sheet_of};
-ghost use Rattle.text.specs.Typed.{blank, Typed};
+ghost use Rattle.text.specs.Typed.{Typed};
+ghost use Rattle.text.specs.Typing.{Types};
 ghost use Rattle.words.specs.Numbers.{value_in};
 ghost use Rattle.hex_words.specs.Octets.{octets_in, list_in};
 ghost use Rattle.answers.specs.Answers.{listed, read_answer, write_answer, sheet_answer, view_answer, choose_answer, remove_answer, replace_answer, copy_answer, rebuild_answer, asked, answer_of};
@@ -242,13 +243,11 @@ pub fn answer(line: &[u8], reply: &mut Text)
     reply.line_end();
 }
 
-// The answer to a line in a text of its own, all of it.
-#[tactic(auto, unfolding(text::specs::Typed::blank))]
-pub fn reply(line: &[u8]) -> Text
-    ensures typed { Typed (answer_of line.now) blank result }
-    ensures whole { take result.end result.octets ≡ answer_of line.now }
+// The same from the start of a text on, whatever stands there, and so all of it.
+pub fn reply(line: &[u8], text: &mut Text)
+    ensures typed { Types (answer_of line.now) text.old.octets 0 text.new.octets text.new.end }
+    ensures whole { take text.new.end text.new.octets ≡ answer_of line.now }
 {
-    let mut reply = Text::new();
-    answer(line, &mut reply);
-    reply
+    text.end = 0;
+    answer(line, text);
 }

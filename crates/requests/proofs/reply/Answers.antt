@@ -1,9 +1,7 @@
--- `requests::reply` meets its contract: a blank text holds every answer. Assumes nothing.
+-- `requests::reply` meets its contract: a text holds every answer from its start on. Assumes nothing.
 use borrow.Author.Rules.{rules}
-use Rattle.text.specs.Typed.{blank}
-use Rattle.requests.specs.Laws.Requests.{answer_held}
+use Rattle.answers.specs.Laws.Room.{answer_whole}
 use Rattle.requests.proofs.reply.Goals as goal
 
 pub returns-clause-whole : goal.returns-clause-whole
-unfolding blank
-returns-clause-whole c = answer_held c.args.line.now (search rules)
+returns-clause-whole c = (answer_whole c.args.line.now (search rules) c.answer.ensures).1

@@ -1,7 +1,6 @@
 -- One law for each way through the handlers.
-use Rattle.std.specs.Prelude.{◌≡◌, refl, Bool, true, false, List, [], ◌∷◌, ℕ, ◌≤◌, ◌<◌, ltb, length, get_or, take, replicate, Ok, Err}
+use Rattle.std.specs.Prelude.{◌≡◌, refl, Bool, true, false, List, [], ◌∷◌, ℕ, ◌≤◌, ◌<◌, ltb, length, get_or, replicate, Ok, Err}
 use Rattle.std.proofs.Common.{sym, ◌∙◌, arith}
-use Rattle.std.proofs.lemmas.List.{length-replicate}
 use Rattle.std.proofs.Math.Path.{ap}
 use borrow.Author.Tests.{ltb-false, ne_eqb}
 use Rattle.std.proofs.Math.ListN.{drop}
@@ -16,8 +15,6 @@ use Rattle.scope.specs.Views.{view_of, choose_of}
 use Rattle.scope.specs.Desk.{edit_of}
 use Rattle.scope.specs.Visitors.{copy_of}
 use Rattle.text.specs.Typing.{Types}
-use Rattle.text.specs.Typed.{blank, Typed}
-use Rattle.text.specs.declared.Text.{Text}
 use Rattle.text.specs.Laws.Typing.{types_as, types_behind}
 use Rattle.words.specs.Lines.{word_of}
 use Rattle.words.specs.Numbers.{value_in}
@@ -34,7 +31,6 @@ use Rattle.protocol.specs.Requests.{number_of, parsed}
 use Rattle.protocol.specs.Laws.Requests.{asked_told, wrong_told}
 use Rattle.replies.specs.Texts.{bad_request, refusal_text, output_text, given_text, reading_text, sheet_text}
 use Rattle.answers.specs.Answers.{listed, viewed, chosen, read_answer, write_answer, sheet_answer, view_answer, choose_answer, remove_answer, replace_answer, copy_answer, rebuild_answer, asked, said, answer_of}
-use Rattle.answers.specs.Laws.Room.{answer_whole}
 
 -- the word of a line that starts at a place of the parser's, and all words from it on
 abbrev pub word_in : List ℕ → List ℕ → ℕ → List ℕ
@@ -148,11 +144,6 @@ module _ (line : List ℕ) {p : Parsed} (ep : p ≡ parsed (parse_of line)) wher
       → Types (bad_request n) l at m next → Types (10 ∷ []) m next k last → Types (answer_of line) l at k last
   unfolding answer_of said
   answer_wrong n e x y = let j : (parse_of line).judged ≡ Wrong n = wrong_told line n (ap (λ (x : Parsed). x.judged) (sym ep) ∙ e) in rw j (types_behind x y)
-
--- a text that was blank holds the whole answer
-pub answer_held : (line : List ℕ) {t : Text} → Typed (answer_of line) blank t → take t.end t.octets ≡ answer_of line
-unfolding blank
-answer_held line a = (answer_whole line (length-replicate {A = ℕ} 4_096 0) a).1
 
 -- the record of a request
 pub record_is : (line : List ℕ) (at : ℕ) → length line ≤ 16_384 → {f : Record} → f ≡ record_at line at → f ≡ record_in (words_at line at)
