@@ -110,8 +110,8 @@ def fact(edit):
     return " ".join(line[1:].strip() for line in lines_of(edit) if line.startswith("#"))
 
 
-def changed(old, new):
-    """What differs, with a word or two around it."""
+def changed(old, new, most):
+    """What differs, with a word or two around it, so many characters of it."""
     a, b = old.split(), new.split()
     start = 0
     while start < min(len(a), len(b)) and a[start] == b[start]:
@@ -120,7 +120,7 @@ def changed(old, new):
     while end < min(len(a), len(b)) - start and a[-1 - end] == b[-1 - end]:
         end += 1
     first = max(0, start - 1)
-    cut = lambda words: " ".join(words[first : len(words) - end + (1 if end else 0)])[:30]
+    cut = lambda words: " ".join(words[first : len(words) - end + (1 if end else 0)])[:most]
     return f"{code(cut(a))} → {code(cut(b))}"
 
 
@@ -339,7 +339,8 @@ def section(crate, promise, edits, log):
     print(f"\n## {crate}: {promise}\n")
     print("| edit | changed | the fact | refused in |\n|---|---|---|---|")
     for edit in edits[crate]:
-        what = "; ".join(changed(old, new) for _, old, new in changes(edit) if not old.startswith(("use ", "ghost use ")))
+        shown = [(old, new) for _, old, new in changes(edit) if not old.startswith(("use ", "ghost use "))]
+        what = "; ".join(changed(old, new, 30 if len(shown) == 1 else 20) for old, new in shown)
         print(f"| `{edit.stem}` | {what} | {fact(edit)} | {refused_in(crate, edit.stem, log)} |")
     functions = wrong_programs(crate, edits.get(crate, []))
     if functions:
@@ -355,7 +356,7 @@ def page(edits, log):
     print("# Wrong programs\n")
     count = sum(len(found) for found in edits.values())
     print(f"{count} wrong programs, tried by `rt ci` at every run: each is the program with one or two lines changed "
-          "to the same shape with another operand, or a call of std that has no such operand to what does the same but for the fact. Each is refused.")
+          "to the same shape with another operand,\nor a call of std that has no such operand to what does the same but for the fact. Each is refused.")
     print("The table says what was changed, the fact that no longer holds, and where the check first fails. "
           "`python3 tests/ledger.py` makes this page from the edits and from what a run of `rt` said of them.")
     print("A wrong line counts for every public function that runs it or looks it up: each of them has two or more, a "
