@@ -5,14 +5,13 @@ use Prim.Native.Nat.{ℕ}
 use Rattle.std.proofs.lemmas.Result.{err_from_is_err_and}
 use Rattle.layout.specs.Answer.{survey_by_number}
 use Rattle.layout.specs.Laws.Answer.{reason_some}
-use Rattle.desk.specs.Edits.{emptied}
-use Rattle.desk.specs.Laws.Edits.{allowed_refused, allowed_yes, allowed_no, emptied_told}
+use Rattle.desk.specs.Laws.Edits.{emptied_refused, emptied_yes, emptied_no}
 use Rattle.desk.proofs.allowed.Goals as goal
 
 pub returns-in_default : goal.returns-in_default
 returns-in_default c =
     let a = c.args in
-    emptied_told _ ∙ ap emptied (allowed_refused a.cat a.field.now a.list a.item c.survey-surveyed.ensures (ap (λ r. (survey_by_number r).answer) c.in_default.is))
+    emptied_refused a.cat a.field.now a.list a.item c.survey-surveyed.ensures (ap (λ r. (survey_by_number r).answer) c.in_default.is)
 
 pub returns-in_err-asked : goal.returns-in_err-asked
 returns-in_err-asked c =
@@ -21,9 +20,9 @@ returns-in_err-asked c =
     let no = reason_some c.in_err-asked.field-0.0.reason in
     let e = c.in_err-asked.ensures in
     rw (p.1, p.2, ap (λ (x : ℕ × ℕ). x.1) e)
-    (ap emptied (allowed_no a.cat a.field.now a.list a.item (ap survey_by_number (sym c.in-Ok.is) ∙ c.survey-surveyed.ensures) refl (ap (λ (x : ℕ × ℕ). x.0) e) (λ z. omega (arith, no, z))))
+    (emptied_no a.cat a.field.now a.list a.item (ap survey_by_number (sym c.in-Ok.is) ∙ c.survey-surveyed.ensures) refl (ap (λ (x : ℕ × ℕ). x.0) e) (λ z. omega (arith, no, z)))
 
 pub returns : goal.returns
 returns c =
     let a = c.args in
-    ap emptied (allowed_yes a.cat a.field.now a.list a.item (ap survey_by_number (sym c.in-Ok.is) ∙ c.survey-surveyed.ensures) refl (ap (λ (x : ℕ × ℕ). x.0) c.in_ok-asked.ensures) refl)
+    emptied_yes a.cat a.field.now a.list a.item (ap survey_by_number (sym c.in-Ok.is) ∙ c.survey-surveyed.ensures) refl (ap (λ (x : ℕ × ℕ). x.0) c.in_ok-asked.ensures) refl

@@ -70,6 +70,30 @@ pub emptied_told : (r : Result Survey Refusal) → survey_by_number r ≡ emptie
 emptied_told (Ok v) = refl
 emptied_told (Err r) = refl
 
+-- and so is every survey: that of a refused field has zeros
+pub emptied_survey : (cat : ℕ) (s : List ℕ) → survey_of cat s ≡ emptied (survey_of cat s)
+unfolding survey_of surveyed
+emptied_survey cat s = go (field_of cat s)
+  where
+    go : (y : Outcome Contents) → surveyed cat s y ≡ emptied (surveyed cat s y)
+    go (accepted r) = refl
+    go (refused n p) = refl
+
+-- the ways out of `allowed` as code gives them
+module _ (cat : ℕ) (s : List ℕ) (list item : ℕ) {v : Surveyed} (ev : v ≡ survey_of cat s) where
+  still : v ≡ emptied v
+  still = ev ∙ emptied_survey cat s ∙ ap emptied (sym ev)
+
+  pub emptied_refused : {n p : ℕ} → v.answer ≡ Refused n p → v ≡ emptied (allowed_of cat s list item)
+  emptied_refused ea = still ∙ ap emptied (allowed_refused cat s list item ev ea)
+
+  module _ {n : ℕ} (ea : v.answer ≡ Accepted n) {no : ℕ} (eno : no ≡ asked_of cat list item) where
+    pub emptied_yes : no ≡ 0 → v ≡ emptied (allowed_of cat s list item)
+    emptied_yes z = still ∙ ap emptied (allowed_yes cat s list item ev ea eno z)
+
+    pub emptied_no : (no ≡ 0 → ⊥) → ◌≡◌ {A = Surveyed} (record { answer = Refused no 0; items = 0; starts = replicate 9 0 }) (emptied (allowed_of cat s list item))
+    emptied_no h = ap emptied (allowed_no cat s list item ev ea eno h)
+
 -- the way out of `exchanged`: w is the item's number
 module _ (f : List ℕ) (len : ℕ) (starts : List ℕ) (item : ℕ) (t : List ℕ) {w : ℕ} (ew : w ≡ item) where
   module _ {from to : ℕ} (ef : from ≡ get_or starts (w - 1) 0) (et : to ≡ get_or starts w 0) where

@@ -50,6 +50,10 @@ pub ruleset fits_ways = (number_some, signed_some, fits_byte, fits_octets, fits_
 
 -- ---- of `first_wrong`
 
+-- a number as code gives it, which numbers no word 0
+is_word : {n m : ℕ} → n ≡ m → 0 < m → Some m ≡ wrong_word n
+is_word {m = m} e h = rw (e, lt-ltb 0 m h) refl
+
 module _ (ks s : List ℕ) (k at n : ℕ) where
   abbrev pub wrong_from : ℕ
   wrong_from = first_wrong (drop k ks) (words_at s at) n
@@ -75,10 +79,7 @@ module _ (ks s : List ℕ) (k at n : ℕ) where
   unfolding first_wrong
   wrong_over h e = rw (drop_of_length-le ks {i = k} h, some_at s at e) refl
 
-  -- as code gives it, which numbers no word 0
-  is_word : wrong_from ≡ n → 0 < n → Some n ≡ wrong_word wrong_from
-  is_word e p = rw (e, lt-ltb 0 n p) refl
-
+  -- as code gives it
   pub some_missing : 0 < n → k < length ks → length s < at → Some n ≡ wrong_word wrong_from
   some_missing p h e = is_word (wrong_missing h e) p
 

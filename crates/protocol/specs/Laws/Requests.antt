@@ -82,11 +82,16 @@ module _ (s : List ℕ) where
   unfolding parse_of
   parse_long h = rw (lt-ltb 16_384 (length s) h) refl
 
-  pub parse_line : length s ≤ 16_384 → (rows : List Row) → map asked_in rows ≡ requests → map form_of rows ≡ forms → {j : Result Request ℕ} {p : List ℕ} → j ≡ judged_in rows (words_of s) → p ≡ places_from s 0 10
+  pub parse_line : length s ≤ 16_384 → (rows : List Row) → Numbered 0 rows → map form_of rows ≡ forms → {j : Result Request ℕ} {p : List ℕ} → j ≡ judged_in rows (words_of s) → p ≡ places_from s 0 10
       → ◌≡◌ {A = Parsed} (record { judged = j; starts = p }) (parsed (parse_of s))
   unfolding parse_of
   parse_line h rows a b ej ep =
-      rw (le-ltb 16_384 (length s) h, ej, ep, rows_judged 0 rows (words_of s) (rows_numbered rows a), b) refl
+      rw (le-ltb 16_384 (length s) h, ej, ep, rows_judged 0 rows (words_of s) a, b) refl
+
+  -- of rows by the list of the requests, however many they are
+  pub parse_rows : length s ≤ 16_384 → (rows : List Row) → map asked_in rows ≡ requests → map form_of rows ≡ forms → {j : Result Request ℕ} {p : List ℕ} → j ≡ judged_in rows (words_of s) → p ≡ places_from s 0 10
+      → ◌≡◌ {A = Parsed} (record { judged = j; starts = p }) (parsed (parse_of s))
+  parse_rows h rows a = parse_line h rows (rows_numbered rows a)
 
 -- ---- what the answer of `parse` says
 

@@ -1,12 +1,11 @@
 -- A magnitude of 32 bits is far from the ends of 64.
-use Rattle.std.proofs.Common.{ap, ◌∙◌, rules}
+use Rattle.std.proofs.Common.{◌∙◌, rules}
 use Rattle.std.proofs.lemmas.Int.{ints}
-use Rattle.words.specs.Numbers.{within_32}
-use Rattle.words.specs.Laws.Numbers.{below_none, below_told}
+use Rattle.words.specs.Laws.Numbers.{not_below, below_told}
 use Rattle.words.proofs.below.Goals as goal
 
 pub returns-then-magnitude-eq0 : goal.returns-then-magnitude-eq0
-returns-then-magnitude-eq0 c = ap within_32 (below_none c.args.magnitude c.if-magnitude-eq0.true)
+returns-then-magnitude-eq0 c = not_below c.args.magnitude c.if-magnitude-eq0.true
 
 pub returns : goal.returns
 returns c = c.ok.ensures.value ∙ below_told c.args.magnitude c.if-magnitude-eq0.false c.try_from.result (search (rules, ints))

@@ -1,10 +1,10 @@
 -- The digits passed say v, and from each place that the loop reaches the answer is the same.
 use Rattle.std.proofs.Common.{◌+◌, ◌*◌, sym, ap, ◌∙◌, drop, arith}
-use Rattle.words.specs.Laws.Numbers.{from_here, is_past, not_leading, leading, no_digit, digit_more, digit_over, digits_end}
+use Rattle.words.specs.Laws.Numbers.{from_here, not_number, leading, no_digit, digit_more, digit_over, digits_end}
 use Rattle.words.proofs.number.Goals as goal
 
 pub returns-then-not-leads_well : goal.returns-then-not-leads_well
-returns-then-not-leads_well c = is_past _ _ (not_leading _ _ (sym c.leads_well.ensures ∙ c.if-not-leads_well.true))
+returns-then-not-leads_well c = not_number _ _ (sym c.leads_well.ensures ∙ c.if-not-leads_well.true)
 
 pub loop-o-init : goal.loop-o-init
 loop-o-init c = record { below = omega arith; answer = leading _ _ (sym c.leads_well.ensures ∙ c.if-not-leads_well.false) }

@@ -74,6 +74,10 @@ pub not_leading : (limit : ℕ) (w : List ℕ) → leads w ≡ false → number_
 unfolding number_in is_number
 not_leading limit w e = rw e refl
 
+-- as code gives it
+pub not_number : (limit : ℕ) (w : List ℕ) → leads w ≡ false → None ≡ at_most limit (number_in limit w)
+not_number limit w e = is_past limit (number_in limit w) (not_leading limit w e)
+
 pub leading : (limit : ℕ) (w : List ℕ) → leads w ≡ true → number_in limit w ≡ from_here limit 0 w
 unfolding number_in is_number from_here value_of
 leading limit w e = rw e refl
@@ -134,6 +138,10 @@ digit_least o e = by_test (ltb 47 o) refl e
 pub below_none : (m : ℕ) → m ≡ 0 → pos 2_147_483_648 ≡ below m
 unfolding below
 below_none m e = rw (eq-eqb m 0 e) refl
+
+-- as code gives it
+pub not_below : (m : ℕ) → m ≡ 0 → None ≡ within_32 (below m)
+not_below m e = ap within_32 (below_none m e)
 
 pub below_more : (m : ℕ) → (m ≡ 0 → ⊥) → 2_147_483_648 < m → pos 2_147_483_648 ≡ below m
 unfolding below
