@@ -340,7 +340,7 @@ def section(crate, promise, edits, log):
     print("| edit | changed | the fact | refused in |\n|---|---|---|---|")
     for edit in edits[crate]:
         shown = [(old, new) for _, old, new in changes(edit) if not old.startswith(("use ", "ghost use "))]
-        what = "; ".join(changed(old, new, 30 if len(shown) == 1 else 20) for old, new in shown)
+        what = "; ".join(changed(old, new, 30 if len(shown) == 1 else 19) for old, new in shown)
         print(f"| `{edit.stem}` | {what} | {fact(edit)} | {refused_in(crate, edit.stem, log)} |")
     functions = wrong_programs(crate, edits.get(crate, []))
     if functions:
